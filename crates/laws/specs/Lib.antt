@@ -1,0 +1,3 @@
+-- Lemmas with nothing of gliders in them.
+pub mod Z
+pub mod Floor

@@ -1,0 +1,67 @@
+-- "The journal": a list of entries kept from the calls' arguments alone, and the number that each call gets by it.
+use mathlib.Core.Bool.{cond}
+use mathlib.Core.List.{List, [], _∷_, _++_}
+use mathlib.Core.Option.{Option, none, some}
+use Prim.Native.Nat.{ℕ}
+use lib.Dec.{eqb}
+use Rattle.paper.specs.declared.Weighing.{Weighing}
+use Rattle.paper.specs.declared.Sheet.{Sheet}
+use Rattle.paper.specs.declared.Change.{Change}
+use Rattle.paper.specs.declared.Entry.{Entry}
+use Rattle.paper.specs.declared.Entry.the-variants as entry
+use Rattle.paper.specs.Refusals.{weighingNumber, sheetNumber, changeNumber, undoNumber, readingNumber, fileOf}
+
+-- a call that can change the record, with its arguments: the bytes of a file are reading back's
+pub data Call : Type 0 where
+  weigh : Weighing → Call
+  install : Sheet → Call
+  change : Change → Call
+  undo : Call
+  read : List ℕ → Call
+
+-- the number that a call gets on a journal, 0 where it is accepted
+unfoldable pub callNumber : List Entry → Call → ℕ
+callNumber es (weigh w) = weighingNumber es w
+callNumber es (install s) = sheetNumber es s
+callNumber es (change x) = changeNumber es x
+callNumber es undo = undoNumber es
+callNumber es (read xs) = readingNumber xs
+
+-- a list without its last entry
+unfoldable pub withoutLast : {A : Type 0} → List A → List A
+withoutLast [] = []
+withoutLast (x ∷ []) = []
+withoutLast (x ∷ y ∷ xs) = x ∷ withoutLast (y ∷ xs)
+
+abbrev pub entriesOr : List Entry → Option (List Entry) → List Entry
+entriesOr es none = es
+entriesOr es (some fs) = fs
+
+-- the journal after an accepted call: the entry at its end, or without its last, or the file's entries in its place
+unfoldable pub acceptedCall : List Entry → Call → List Entry
+acceptedCall es (weigh w) = es ++ entry.Weighing w ∷ []
+acceptedCall es (install s) = es ++ entry.Sheet s ∷ []
+acceptedCall es (change x) = es ++ entry.Change x ∷ []
+acceptedCall es undo = withoutLast es
+acceptedCall es (read xs) = entriesOr es (fileOf xs)
+
+-- the journal after a call: a call that gets a number leaves it as it was
+unfoldable pub afterCall : List Entry → Call → List Entry
+afterCall es x = cond (eqb (callNumber es x) 0) (acceptedCall es x) es
+
+-- the journal after a list of calls, the first one first, that begins at a list
+unfoldable pub journalFrom : List Entry → List Call → List Entry
+journalFrom es [] = es
+journalFrom es (x ∷ xs) = journalFrom (afterCall es x) xs
+
+-- the number of each of them
+unfoldable pub numbersFrom : List Entry → List Call → List ℕ
+numbersFrom es [] = []
+numbersFrom es (x ∷ xs) = callNumber es x ∷ numbersFrom (afterCall es x) xs
+
+-- from a fresh record on, the journal begins empty
+unfoldable pub journal : List Call → List Entry
+journal xs = journalFrom [] xs
+
+unfoldable pub numbers : List Call → List ℕ
+numbers xs = numbersFrom [] xs

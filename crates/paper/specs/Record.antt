@@ -1,0 +1,92 @@
+-- "The record": what a list of entries says. G, M and n, the empty centre of gravity and the sheet in force, all of the
+-- list alone, its first entry first.
+use mathlib.Core.Bool.{Bool, true, false, cond}
+use mathlib.Core.List.{List, [], _∷_}
+use mathlib.Core.Option.{Option, none, some, Option·map, orElse}
+use Prim.Native.Nat.{ℕ, _*_}
+use lib.Dec.{eqb}
+use lib.IntN.{ℤ, pos, natAbs, _+ℤ_, _-ℤ_, _*ℤ_}
+use lib.Signed.{shrZ}
+use Rattle.paper.specs.declared.Weighing.{Weighing}
+use Rattle.paper.specs.declared.Sheet.{Sheet}
+use Rattle.paper.specs.declared.Change.{Change}
+use Rattle.paper.specs.declared.Entry.{Entry}
+use Rattle.paper.specs.declared.Entry.the-variants as entry
+
+-- the paper's G, M and n
+pub record Balance : Type 0 where
+  pub total : ℤ
+  pub moment : ℤ
+  pub nonLifting : ℤ
+
+-- one of four by the method of a weighing; a method beyond 4 goes with 4, and no call accepts it
+abbrev pub byMethod : {A : Type 0} → ℕ → A → A → A → A → A
+byMethod m first second third fourth = cond (eqb m 1) first (cond (eqb m 2) second (cond (eqb m 3) third fourth))
+
+-- G of a weighing: p is the total in methods 1 and 2; two slings add up; the lift is taken from the platform's reading
+unfoldable pub totalOf : Weighing → ℤ
+totalOf w = byMethod (w .m) (pos (w .p)) (pos (w .p)) (pos (w .p) +ℤ pos (w .q)) (pos (w .p) -ℤ pos (w .q))
+
+-- M of a weighing: 1: p·a + q·b;  2: (p − q)·b − p·a;  3: q·b − G·a;  4: G·a − q·b
+unfoldable pub momentOf : Weighing → ℤ
+momentOf w =
+    byMethod (w .m)
+    (pos (w .p) *ℤ w .a +ℤ pos (w .q) *ℤ pos (w .b))
+    ((pos (w .p) -ℤ pos (w .q)) *ℤ pos (w .b) -ℤ pos (w .p) *ℤ w .a)
+    (pos (w .q) *ℤ pos (w .b) -ℤ totalOf w *ℤ w .a)
+    (totalOf w *ℤ w .a -ℤ pos (w .q) *ℤ pos (w .b))
+
+-- what a weighing says
+unfoldable pub weighed : Weighing → Balance
+weighed w = record { total = totalOf w; moment = momentOf w; nonLifting = pos (w .n) }
+
+-- what a change makes of it: c more of G, c·arm more of M, and c more of n where the flag is 1
+unfoldable pub changed : Balance → Change → Balance
+changed b x =
+    record {
+      total = b .total +ℤ x .c;
+      moment = b .moment +ℤ x .c *ℤ x .arm;
+      nonLifting = cond (eqb (x .flag) 1) (b .nonLifting +ℤ x .c) (b .nonLifting);
+    }
+
+-- what a run of changes makes of it
+unfoldable pub changedBy : Balance → List Change → Balance
+changedBy b [] = b
+changedBy b (x ∷ xs) = changedBy (changed b x) xs
+
+-- the changes of a list, in its order
+unfoldable pub changesOf : List Entry → List Change
+changesOf [] = []
+changesOf (entry.Weighing w ∷ es) = changesOf es
+changesOf (entry.Sheet s ∷ es) = changesOf es
+changesOf (entry.Change x ∷ es) = x ∷ changesOf es
+
+-- a weighing with the changes behind it
+abbrev pub opened : Entry → List Change → Option (Weighing × List Change)
+opened (entry.Weighing w) xs = some (w, xs)
+opened (entry.Sheet s) xs = none
+opened (entry.Change x) xs = none
+
+-- the last weighing of a list with the changes behind it, none where the list has no weighing
+unfoldable pub lastWeighing : List Entry → Option (Weighing × List Change)
+lastWeighing [] = none
+lastWeighing (e ∷ es) = orElse (lastWeighing es) (opened e (changesOf es))
+
+-- G, M and n of a list: those of its last weighing and the changes behind it
+unfoldable pub balanceOf : List Entry → Option Balance
+balanceOf es = Option·map (λ (x : Weighing × List Change). changedBy (weighed (x .0)) (x .1)) (lastWeighing es)
+
+-- the empty centre of gravity: M/G to the nearest unit, halves towards the tail, so M/G + 1/2 rounded down
+unfoldable pub centreOf : Balance → ℤ
+centreOf b = shrZ (pos 2 *ℤ b .moment +ℤ b .total) (2 * natAbs (b .total))
+
+-- a sheet
+abbrev pub asSheet : Entry → Option Sheet
+asSheet (entry.Weighing w) = none
+asSheet (entry.Sheet s) = some s
+asSheet (entry.Change x) = none
+
+-- the sheet in force: the last of the list
+unfoldable pub sheetOf : List Entry → Option Sheet
+sheetOf [] = none
+sheetOf (e ∷ es) = orElse (sheetOf es) (asSheet e)

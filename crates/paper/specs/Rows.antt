@@ -1,0 +1,119 @@
+-- "A row": which front loads keep every limit, and what a row prints.
+use mathlib.Core.Bool.{Bool, true, false, not, _&&_, _||_}
+use mathlib.Core.List.{List, [], _∷_, _++_, map}
+use mathlib.Core.Option.{Option, none, some}
+use Prim.Native.Nat.{ℕ, zero, suc, _+_, _*_, _/_, _%_}
+use lib.Dec.{leb, eqb}
+use lib.IntN.{ℤ, pos, _+ℤ_, _*ℤ_}
+use lib.Signed.{leZ}
+use Rattle.paper.specs.declared.Station.{Station}
+use Rattle.paper.specs.declared.Sheet.{Sheet}
+use Rattle.paper.specs.declared.Row.{Row}
+use Rattle.paper.specs.declared.Row.the-variants.{Range, Blank}
+use Rattle.paper.specs.Record.{Balance}
+
+-- T: the whole weight with rear load r, front load p and water v aboard
+unfoldable pub weightWith : Balance → ℕ → ℕ → ℕ → ℤ
+weightWith b r p v = b .total +ℤ pos p +ℤ pos r +ℤ pos v
+
+-- S: the whole moment with them
+unfoldable pub momentWith : Sheet → Balance → ℕ → ℕ → ℕ → ℤ
+momentWith s b r p v =
+    b .moment +ℤ pos p *ℤ s .front .arm +ℤ pos r *ℤ s .rear .arm +ℤ pos v *ℤ s .water .arm
+
+-- the lines of limits, each as it holds or fails with v aboard:
+-- the greatest weight without water, and with it; the greatest non-lifting weight, unless that is 0 (water never counts as
+-- non-lifting); the moment not ahead of FWD, nor behind the safe aft limit, which is 5 % of the range inside AFT
+unfoldable pub lines : Sheet → Balance → ℕ → ℕ → ℕ → List Bool
+lines s b r p v =
+    leZ (weightWith b r p 0) (pos (s .dry)) ∷
+    leZ (weightWith b r p v) (pos (s .wet)) ∷
+    (eqb (s .nlp) 0 || leZ (b .nonLifting +ℤ pos p +ℤ pos r) (pos (s .nlp))) ∷
+    leZ (s .fwd *ℤ weightWith b r p v) (momentWith s b r p v) ∷
+    leZ (pos 20 *ℤ momentWith s b r p v) ((pos 19 *ℤ s .aft +ℤ s .fwd) *ℤ weightWith b r p v) ∷ []
+
+unfoldable pub all : List Bool → Bool
+all [] = true
+all (x ∷ xs) = x && all xs
+
+unfoldable pub anyFails : List Bool → Bool
+anyFails [] = false
+anyFails (x ∷ xs) = not x || anyFails xs
+
+-- every line holds with v aboard
+unfoldable pub keepsAt : Sheet → Balance → ℕ → ℕ → ℕ → Bool
+keepsAt s b r p v = all (lines s b r p v)
+
+-- a front load breaks a limit with v aboard: a line fails for that v
+unfoldable pub breaksAt : Sheet → Balance → ℕ → ℕ → ℕ → Bool
+breaksAt s b r p v = anyFails (lines s b r p v)
+
+-- each of 0, 1, .. n passes a test
+unfoldable pub upTo : (ℕ → Bool) → ℕ → Bool
+upTo q zero = q zero
+upTo q (suc n) = elim (q (suc n)) [ true ↦ upTo q n | false ↦ false ]
+
+-- a step: a multiple of the front step from least to greatest
+unfoldable pub isStep : Sheet → ℕ → Bool
+isStep s p = eqb (p % s .front .step) 0 && leb (s .least) p && leb p (s .front .most)
+
+-- a front load keeps every limit beside rear load r and water w: it is a step, and every line holds with every whole part
+-- of the water, from none to all of it
+unfoldable pub keeps : Sheet → Balance → ℕ → ℕ → ℕ → Bool
+keeps s b r w p = elim (isStep s p) [ true ↦ upTo (keepsAt s b r p) w | false ↦ false ]
+
+-- the smallest of the n numbers from p on that passes a test
+unfoldable pub smallest : (ℕ → Bool) → ℕ → ℕ → Option ℕ
+smallest q zero p = none
+smallest q (suc n) p = elim (q p) [ true ↦ some p | false ↦ smallest q n (suc p) ]
+
+-- the largest of the numbers from n down to 0 that passes it
+unfoldable pub largest : (ℕ → Bool) → ℕ → Option ℕ
+largest q zero = elim (q zero) [ true ↦ some zero | false ↦ none ]
+largest q (suc n) = elim (q (suc n)) [ true ↦ some (suc n) | false ↦ largest q n ]
+
+-- a row with these two ends
+abbrev pub rangeOf : Option ℕ → Option ℕ → Row
+rangeOf none hi = Blank
+rangeOf (some lo) none = Blank
+rangeOf (some lo) (some hi) = Range lo hi
+
+-- the row of a test: the smallest and the largest number up to n that passes it, blank where none does
+unfoldable pub rowOf : (ℕ → Bool) → ℕ → Row
+rowOf q n = rangeOf (smallest q (suc n) 0) (largest q n)
+
+-- the row of rear load r and water w
+unfoldable pub row : Sheet → Balance → ℕ → ℕ → Row
+row s b r w = rowOf (keeps s b r w) (s .front .most)
+
+-- a front load is in a printed range: between its two ends, or one of them
+abbrev pub inRange : ℕ → Row → Bool
+inRange p (Range lo hi) = leb lo p && leb p hi
+inRange p Blank = false
+
+abbrev pub isBlank : Row → Bool
+isBlank (Range lo hi) = false
+isBlank Blank = true
+
+-- ---- the rows of a sheet
+
+-- 0, 1, .. n - 1
+unfoldable pub below : ℕ → List ℕ
+below zero = []
+below (suc n) = below n ++ n ∷ []
+
+-- the loads of a station: the multiples of its step from 0 to the greatest
+unfoldable pub loadsOf : Station → List ℕ
+loadsOf t = map (λ (i : ℕ). i * t .step) (below (t .most / t .step + 1))
+
+-- how many rows a sheet has
+unfoldable pub rowCount : Sheet → ℕ
+rowCount s = (s .rear .most / s .rear .step + 1) * (s .water .most / s .water .step + 1)
+
+unfoldable pub joined : {A : Type 0} → List (List A) → List A
+joined [] = []
+joined (x ∷ xs) = x ++ joined xs
+
+-- rear load and water of each row: the rear load varies slowest, the water fastest, both rising
+unfoldable pub loads : Sheet → List (ℕ × ℕ)
+loads s = joined (map (λ (r : ℕ). map (λ (w : ℕ). (r, w)) (loadsOf (s .water))) (loadsOf (s .rear)))
