@@ -46,10 +46,10 @@ pub fn signed_of(up: u64, down: u64) -> i64
     up as i64 - down as i64
 }
 
-// A product of two numbers of at most 2000000.
+// A product of two numbers of at most 4000000.
 pub fn times(x: u64, y: u64) -> u64
-    requires { ⌜ (x ≤ 2000000) × (y ≤ 2000000) ⌝ }
-    ensures { λ r. ⌜ (r ≡ x * y) × (r ≤ 4000000000000) ⌝ }
+    requires { ⌜ (x ≤ 4000000) × (y ≤ 4000000) ⌝ }
+    ensures { λ r. ⌜ (r ≡ x * y) × (r ≤ 16000000000000) ⌝ }
 {
     x * y
 }

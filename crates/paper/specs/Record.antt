@@ -46,7 +46,7 @@ changed b x =
     record {
       total = b .total +ℤ x .c;
       moment = b .moment +ℤ x .c *ℤ x .arm;
-      nonLifting = cond (eqb (x .flag) 1) (b .nonLifting +ℤ x .c) (b .nonLifting);
+      nonLifting = b .nonLifting +ℤ cond (eqb (x .flag) 1) (x .c) (pos 0);
     }
 
 -- what a run of changes makes of it

@@ -104,10 +104,14 @@ unfoldable pub afterwards : (Balance → Bool) → Option Balance → Change →
 afterwards q none x = false
 afterwards q (some b) x = q (changed b x)
 
--- 6: c is 0 or beyond 2,000,000 either way, the flag is neither 0 nor 1, or G is out of its range afterwards
+-- c is not 0 and no more than 2,000,000 either way, and the flag is 0 or 1
+unfoldable pub isChange : Change → Bool
+isChange x =
+    between (negℤ (pos 2000000)) (pos 2000000) (x .c) && not (eqb (natAbs (x .c)) 0) && leb (x .flag) 1
+
+-- 6: c or the flag is out of its range, or G afterwards
 unfoldable pub badChange : Option Balance → Change → Bool
-badChange o x =
-    not (between (negℤ (pos 2000000)) (pos 2000000) (x .c)) || eqb (natAbs (x .c)) 0 || not (leb (x .flag) 1) || afterwards (λ b. not (isTotal (b .total))) o x
+badChange o x = not (isChange x) || afterwards (λ b. not (isTotal (b .total))) o x
 
 -- what is asked of a change where o is the balance, in its order behind 9
 unfoldable pub changeFaults : Option Balance → Change → List (ℕ × Bool)

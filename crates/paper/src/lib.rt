@@ -3,6 +3,9 @@
 ghost use mathlib.Core.Path.{_≡_};
 ghost use Rattle.paper.specs.Units.{isWeight, isArm};
 
+// How many entries a record may hold.
+pub const CAPACITY: usize = 64;
+
 // Whole grams.
 pub struct Weight {
     pub grams: u64,

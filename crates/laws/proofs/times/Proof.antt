@@ -4,7 +4,7 @@ use native.Mathlib.Nat.{mul-le-mul}
 use Rattle.laws.proofs.times.Statement.{statement}
 use Rattle.laws.proofs.times.Tie as tie
 
-below : (c : tie.Start) → c .args .x * c .args .y ≤ 4000000000000
+below : (c : tie.Start) → c .args .x * c .args .y ≤ 16000000000000
 below c = mul-le-mul (c .pre .0) (c .pre .1)
 
 mul-result : tie.Need-mul-result

@@ -1,0 +1,3 @@
+-- How the code's numbers stand for the paper's.
+pub mod Moments
+pub mod Standing

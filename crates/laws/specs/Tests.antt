@@ -1,0 +1,105 @@
+-- Tests as Bools: what `&&`, `||` and `not` say, both ways. Assumes nothing.
+use mathlib.Core.Path.{_≡_, refl, sym, _∙_}
+use mathlib.Core.Bool.{Bool, true, false, not, _&&_, _||_}
+use Prim.Native.Nat.{ℕ}
+use native.Mathlib.Decide.{decLe}
+use native.Mathlib.Omega.{arith}
+use lib.Dec.{leb, ltb}
+use borrow.Author.Tests.{lt-ltb, le-ltb, le-leb, lt-leb, not-true, not-false}
+
+-- two tests are equal where each passes if the other does
+pub same : (a b : Bool) → (a ≡ true → b ≡ true) → (b ≡ true → a ≡ true) → a ≡ b
+same true b f g = sym (f refl)
+same false true f g = g refl
+same false false f g = refl
+
+pub isnt : (b : Bool) → (b ≡ true → ⊥) → b ≡ false
+isnt true h = absurd (h refl)
+isnt false h = refl
+
+-- both pass
+pub both : (a b : Bool) → a ≡ true → b ≡ true → (a && b) ≡ true
+both true b e h = h
+both false b e h = e
+
+pub left : (a b : Bool) → (a && b) ≡ true → a ≡ true
+left true b e = refl
+left false b e = e
+
+pub right : (a b : Bool) → (a && b) ≡ true → b ≡ true
+right true b e = e
+right false b e = cc
+
+pub left-passes : (a b : Bool) → a ≡ true → b ≡ (a && b)
+left-passes true b e = refl
+left-passes false b e = cc
+
+-- one of the two fails
+pub left-fails : (a b : Bool) → a ≡ false → (a && b) ≡ false
+left-fails true b e = cc
+left-fails false b e = refl
+
+pub right-fails : (a b : Bool) → b ≡ false → (a && b) ≡ false
+right-fails true b e = e
+right-fails false b e = refl
+
+-- neither passes
+pub neither : (a b : Bool) → a ≡ false → b ≡ false → (a || b) ≡ false
+neither true b e h = e
+neither false b e h = h
+
+pub not-left : (a b : Bool) → (a || b) ≡ false → a ≡ false
+not-left true b e = e
+not-left false b e = refl
+
+pub not-right : (a b : Bool) → (a || b) ≡ false → b ≡ false
+not-right true b e = cc
+not-right false b e = e
+
+-- one of the two passes
+pub by-left : (a b : Bool) → a ≡ true → (a || b) ≡ true
+by-left true b e = refl
+by-left false b e = cc
+
+pub by-right : (a b : Bool) → b ≡ true → (a || b) ≡ true
+by-right true b e = refl
+by-right false b e = e
+
+-- the other way round
+pub turned : (a : Bool) → a ≡ true → not a ≡ false
+turned true e = refl
+turned false e = sym e
+
+pub turned-no : (a : Bool) → a ≡ false → not a ≡ true
+turned-no true e = sym e
+turned-no false e = refl
+
+-- r answers the test t, and was turned
+pub failed : {r t : Bool} → r ≡ t → not r ≡ true → t ≡ false
+failed e h = sym e ∙ not-true _ h
+
+pub passed : {r t : Bool} → r ≡ t → not r ≡ false → t ≡ true
+passed e h = sym e ∙ not-false _ h
+
+-- a condition holds that cannot fail
+pub holds : {q : Bool} → (q ≡ false → ⊥) → true ≡ q
+holds {q = true} f = refl
+holds {q = false} f = absurd (f refl)
+
+-- a test passes, since a condition that holds where it fails does not hold
+pub kept : {q : Bool} (t : Bool) → q ≡ false → (t ≡ false → q ≡ true) → t ≡ true
+kept true e f = refl
+kept false e f = sym e ∙ f refl
+
+-- a test is the condition that holds where it passes and fails where it fails
+pub decides : {q : Bool} (t : Bool) → (t ≡ true → true ≡ q) → (t ≡ false → q ≡ false) → t ≡ q
+decides true f g = f refl
+decides false f g = sym (g refl)
+
+-- the order of two numbers, tested from either side
+pub ltb-not : (a b : ℕ) → ltb a b ≡ not (leb b a)
+ltb-not a b =
+    elim (decLe b a) as (λ d. ltb a b ≡ not (leb b a)) [
+      | yes k ↦ simp (le-ltb a b k, le-leb b a k)
+      | no k ↦ simp (lt-ltb a b (omega arith), lt-leb b a (omega arith))
+    ]

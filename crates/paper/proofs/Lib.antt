@@ -1,0 +1,3 @@
+-- Laws about the definitions, for the proofs of every crate above.
+pub mod Units
+pub mod Numbers
