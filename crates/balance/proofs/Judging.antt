@@ -1,6 +1,7 @@
 -- What a judgement rests on: bounds grow with the entries, and a standing that is weighed is its balance. Assumes nothing.
 use mathlib.Core.Path.{_≡_, refl}
 use Prim.Native.Nat.{ℕ, _+_, _≤_, _<_}
+use native.Mathlib.Decide.{decLt}
 use native.Mathlib.Omega.{arith}
 use mathlib.Core.Option.{Option, none}
 use borrow.Author.Tests.{le-leb, lt-leb}
@@ -38,3 +39,11 @@ full-at n o e h = simp (le-leb 64 n h)
 pub room-at : (n : ℕ) (o : Option paper.Balance) (e : Entry) → n < 64 → numberAt n o e ≡ firstNumber (faultsOf o e)
 unfolding numberAt firstNumber
 room-at n o e h = simp (lt-leb 64 n h)
+
+-- an entry that gets no number finds room
+pub room-of : (n : ℕ) (o : Option paper.Balance) (e : Entry) → numberAt n o e ≡ 0 → n < 64
+room-of n o e z =
+    elim (decLt n 64) as (λ d. n < 64) [
+      | yes h ↦ h
+      | no h ↦ absurd (let k = full-at n o e (omega arith) in omega arith)
+    ]

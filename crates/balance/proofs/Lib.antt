@@ -4,3 +4,4 @@ pub mod Moments
 pub mod Changes
 pub mod Rounding
 pub mod Judging
+pub mod Following

@@ -1,4 +1,5 @@
 -- Lemmas with nothing of gliders in them.
 pub mod Tests
+pub mod Lists
 pub mod Z
 pub mod Floor

@@ -1,0 +1,56 @@
+-- `record::add` meets its contract: the list that the record holds settles the number and the record. Assumes nothing.
+use borrow.Author.Needs.{needs}
+use mathlib.Core.Path.{_≡_, sym, _∙_, ap}
+use mathlib.Core.List.{[], _∷_, _++_}
+use native.Mathlib.Omega.{arith}
+use Rattle.balance.proofs.Judging.{room-of}
+use Rattle.record.specs.Held.{recordOf, heldBy}
+use Rattle.record.proofs.Replays.{sound-at, number-is, log-more}
+use Rattle.record.proofs.Calls.{refused-is, accepted-is}
+use Rattle.record.proofs.add.Statement.{statement}
+use Rattle.record.proofs.add.Tie as tie
+
+replay-requires : tie.Need-replay-requires
+replay-requires c κs = search needs
+
+judge-requires : tie.Need-judge-requires
+judge-requires c κs = sound-at _ _ (c .before .replay .ensures)
+
+enum-known-number : tie.Need-enum-known-number
+enum-known-number c = search needs
+
+enum-told : tie.Need-enum-told
+enum-told c = search needs
+
+appended-requires : tie.Need-appended-requires
+appended-requires c κs = room-of _ _ (c .before .before .before .before .before .args .e) (rw (c .enum-told .given .1) at (c .before .before .judge .ensures) .0)
+
+returns : tie.Need-returns
+returns c =
+    let g = c .before .before .before .before .before .before .args in
+    let at = c .before .before .before .before .before .replay .ensures in
+    let says = rw (c .before .number .given .1) at (c .before .before .before .judge .ensures) in
+    let n = says .0 ∙ number-is (heldBy (g .r)) (c .before .before .before .before .before .replay .result) at (g .e) in
+    sym (rw (← n) (refused-is _ (g .r) _ (omega (arith, says .0, says .1))))
+
+returns-2 : tie.Need-returns-2
+returns-2 c =
+    let g = c .before .before .before .before .before .before .args in
+    let at = c .before .before .before .before .before .replay .ensures in
+    let says = rw (c .before .enum-told .given .1) at (c .before .before .before .judge .ensures) in
+    let r = c .before .before .before .before .before .replay .result in
+    let n = sym (number-is (heldBy (g .r)) r at (g .e)) ∙ says .0 in
+    let l = c .appended .ensures ∙ log-more (heldBy (g .r)) r at (g .e) (says .0) in
+    rw l (sym (accepted-is _ (g .r) (heldBy (g .r) ++ g .e ∷ []) n))
+
+pub add-spec : {M : Type 1} → statement M
+add-spec =
+    tie.close
+    (tie.spec
+    replay-requires
+    judge-requires
+    enum-known-number
+    enum-told
+    appended-requires
+    returns
+    returns-2)
