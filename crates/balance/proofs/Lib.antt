@@ -1,7 +1,2 @@
--- What the proofs of this crate share, by what it is about.
-pub mod Readings
-pub mod Moments
-pub mod Changes
+-- What the proofs share: the rounding of the centre of gravity.
 pub mod Rounding
-pub mod Judging
-pub mod Following

@@ -1,3 +1,2 @@
 -- How the code's numbers stand for the paper's.
-pub mod Moments
-pub mod Standing
+pub mod Balance

@@ -7,4 +7,3 @@ pub mod File
 pub mod Refusals
 pub mod Answers
 pub mod Journal
-pub mod Cases

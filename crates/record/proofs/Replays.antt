@@ -11,9 +11,9 @@ use Rattle.laws.specs.Lists.{length-more, map-take-more}
 use Rattle.paper.specs.declared.Entry.{Entry}
 use Rattle.paper.specs.Record.{Balance, lastWeighing, balanceOf}
 use Rattle.paper.specs.Refusals.{entryNumber, acceptedAfter, accepted}
-use Rattle.balance.specs.declared.Standing.the-variants.{Unweighed}
-use Rattle.balance.specs.Standing.{plainly, Sound, numberAt, after}
-use Rattle.balance.proofs.Following.{balance-more, number-at}
+use Rattle.judge.specs.declared.Standing.the-variants.{Unweighed}
+use Rattle.judge.specs.Standing.{plainly, Sound, numberAt, after}
+use Rattle.judge.proofs.Following.{balance-more, number-at}
 use Rattle.record.specs.declared.Slot.{Slot}
 use Rattle.record.specs.declared.Record.{Record}
 use Rattle.record.specs.declared.Replayed.{Replayed}

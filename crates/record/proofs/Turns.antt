@@ -13,8 +13,8 @@ use Rattle.laws.specs.Lists.{length-more}
 use Rattle.paper.specs.declared.Entry.{Entry}
 use Rattle.paper.specs.Record.{balanceOf}
 use Rattle.paper.specs.Refusals.{entryNumber, acceptedAfter, accepted}
-use Rattle.balance.proofs.Following.{number-at}
-use Rattle.balance.proofs.Judging.{room-of}
+use Rattle.judge.proofs.Following.{number-at}
+use Rattle.judge.proofs.Judging.{room-of}
 use Rattle.record.specs.Held.{keptBehind, replayed}
 
 -- ---- one entry

@@ -11,7 +11,7 @@ use Rattle.paper.specs.declared.Entry.the-variants as entry
 use Rattle.paper.specs.Record.{balanceOf}
 use Rattle.paper.specs.Refusals.{capacity, entryNumber}
 use Rattle.paper.specs.Journal.{Call, callNumber, acceptedCall}
-use Rattle.balance.specs.Standing.{plainly, Sound}
+use Rattle.judge.specs.Standing.{plainly, Sound}
 use Rattle.record.specs.declared.Slot.{Slot}
 use Rattle.record.specs.declared.Record.{Record}
 use Rattle.record.specs.declared.Kept.{Kept}

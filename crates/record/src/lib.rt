@@ -1,7 +1,7 @@
 // The record: a list of at most 64 accepted entries, and the calls on it. A record goes by value. Each call replays the
 // entries that it holds, so it answers for every value of the type, also for one that no call made.
-use balance::Judged;
-use balance::Standing;
+use judge::Judged;
+use judge::Standing;
 use paper::CAPACITY;
 use paper::CentreOfGravity;
 use paper::Change;
@@ -14,7 +14,7 @@ ghost use Prim.Native.Nat.{_<_};
 ghost use Rattle.paper.specs.Refusals.{entryNumber};
 ghost use Rattle.paper.specs.Journal as journal;
 ghost use Rattle.paper.specs.Answers.{centreAnswer};
-ghost use Rattle.balance.specs.Standing.{Sound};
+ghost use Rattle.judge.specs.Standing.{Sound};
 ghost use Rattle.record.specs.Held.{unusedSlot, recordOf, keptBehind, heldBy, answered, keptOr, put, ReplayedAs};
 
 pub struct Slot {
@@ -71,7 +71,7 @@ fn step(r: Replayed, e: Entry) -> Replayed
 {
     let log = r.log;
     let standing = r.standing;
-    match balance::judge(log.count, standing, e) {
+    match judge::judge(log.count, standing, e) {
         Judged::Refused(_) => r,
         Judged::Accepted(next) => Replayed {
             log: appended(log, e),
@@ -105,12 +105,15 @@ fn add(r: Record, e: Entry) -> Kept
     let now = replay(r);
     let log = now.log;
     let standing = now.standing;
-    match balance::judge(log.count, standing, e) {
+    match judge::judge(log.count, standing, e) {
         Judged::Refused(number) => Kept { number, log: r },
-        Judged::Accepted(_) => Kept {
-            number: 0,
-            log: appended(log, e),
-        },
+        Judged::Accepted(_) => {
+            let next = appended(log, e);
+            Kept {
+                number: 0,
+                log: next,
+            }
+        }
     }
 }
 

@@ -44,16 +44,14 @@ signed-of-requires-2 c κs = search needs
 
 returns : tie.Need-returns
 returns c =
-    let b = c .before .before .before .before .before .before .before .args .b in
-    let m = c .before .before .before .before .before .before .before .pre .ranged .least in
-    turns-aft (b .total) (b .aft) (b .fore) (pos (b .nonlifting)) m _ (c .before .before .before .before .before .if1 .taken) (c .before .over .result) (c .before .over .ensures .0)
+    let b = c .before .before .before .args .b in
+    turns-aft (b .total) (b .aft) (b .fore) (pos (b .nonlifting)) (c .before .before .before .pre .ranged .least) _ (c .before .before .if1 .taken) (c .before .over .result) (c .before .over .ensures .0)
     (rw (toZ-ofZ (record { sfits = c .signed-of .ok })) (c .signed-of .ensures))
 
 returns-2 : tie.Need-returns-2
 returns-2 c =
-    let b = c .before .before .before .before .before .before .before .args .b in
-    let m = c .before .before .before .before .before .before .before .pre .ranged .least in
-    turns-forward (b .total) (b .aft) (b .fore) (pos (b .nonlifting)) m _ (c .before .before .before .before .before .if1 .left) (c .before .over2 .result) (c .before .over2 .ensures .0)
+    let b = c .before .before .before .args .b in
+    turns-forward (b .total) (b .aft) (b .fore) (pos (b .nonlifting)) (c .before .before .before .pre .ranged .least) _ (c .before .before .if1 .left) (c .before .over2 .result) (c .before .over2 .ensures .0)
     (rw (toZ-ofZ (record { sfits = c .signed-of2 .ok })) (c .signed-of2 .ensures))
 
 pub centre-spec : {M : Type 1} → statement M

@@ -3,7 +3,7 @@ use borrow.Author.Needs.{needs}
 use mathlib.Core.Path.{_≡_, sym, _∙_, ap}
 use mathlib.Core.List.{[], _∷_, _++_}
 use native.Mathlib.Omega.{arith}
-use Rattle.balance.proofs.Judging.{room-of}
+use Rattle.judge.proofs.Judging.{room-of}
 use Rattle.record.specs.Held.{recordOf, heldBy}
 use Rattle.record.proofs.Replays.{sound-at, number-is, log-more}
 use Rattle.record.proofs.Calls.{refused-is, accepted-is}

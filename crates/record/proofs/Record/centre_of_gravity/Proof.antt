@@ -6,8 +6,9 @@ use mathlib.Core.Option.{Option, some}
 use native.Mathlib.Omega.{arith}
 use mir.Facts.{toZ-ofZ}
 use Rattle.paper.specs.Record as paper
-use Rattle.balance.specs.Standing.{plain, plainly, Bounded}
-use Rattle.balance.proofs.Judging.{grown, of-weighed}
+use Rattle.balance.specs.Balance.{plain, Bounded}
+use Rattle.judge.specs.Standing.{plainly}
+use Rattle.judge.proofs.Judging.{grown, of-weighed}
 use Rattle.record.specs.Held.{heldBy}
 use Rattle.record.proofs.Replays.{held-most}
 use Rattle.record.proofs.Calls.{centre-none, centre-some}

@@ -1,0 +1,2 @@
+-- What stands, and what a judgement says.
+pub mod Standing

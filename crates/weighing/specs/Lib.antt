@@ -1,0 +1,2 @@
+-- What the methods of a weighing ask and say.
+pub mod Moments

@@ -1,0 +1,2 @@
+-- Paper 01's worked cases.
+pub mod Cases
