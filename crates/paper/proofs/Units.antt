@@ -1,18 +1,12 @@
--- What the tests of a weight and of an arm say in numbers, by opening them. Assumes nothing.
+-- What the test of an arm says in numbers, by opening it. Assumes nothing.
 use mathlib.Core.Path.{_≡_}
 use mathlib.Core.Bool.{true}
-use Prim.Native.Nat.{ℕ, _≤_}
 use native.Mathlib.Omega.{arith}
 use lib.IntN.{ℤ, pos, negsuc}
 use lib.Signed.{leZ, _≤ℤ_}
-use borrow.Author.Tests.{leb-true}
 use Rattle.laws.specs.Tests.{left, right}
 use Rattle.laws.specs.Z.{zs}
-use Rattle.paper.specs.Units.{isWeight, isArm}
-
-pub weight-most : (x : ℕ) → isWeight x ≡ true → x ≤ 2000000
-unfolding isWeight
-weight-most x e = leb-true x 2000000 e
+use Rattle.paper.specs.Units.{isArm}
 
 pub arm-range : (x : ℤ) → isArm x ≡ true → (negsuc 1999999 ≤ℤ x) × (x ≤ℤ pos 2000000)
 unfolding isArm

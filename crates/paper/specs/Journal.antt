@@ -1,5 +1,5 @@
 -- "The journal": a list of entries kept from the calls' arguments alone, and the number that each call gets by it.
-use mathlib.Core.Bool.{cond}
+use mathlib.Core.Bool.{Bool, cond, not}
 use mathlib.Core.List.{List, [], _∷_, _++_}
 use mathlib.Core.Option.{Option, none, some}
 use Prim.Native.Nat.{ℕ}
@@ -9,7 +9,8 @@ use Rattle.paper.specs.declared.Sheet.{Sheet}
 use Rattle.paper.specs.declared.Change.{Change}
 use Rattle.paper.specs.declared.Entry.{Entry}
 use Rattle.paper.specs.declared.Entry.the-variants as entry
-use Rattle.paper.specs.Refusals.{weighingNumber, sheetNumber, changeNumber, undoNumber, readingNumber, fileOf}
+use Rattle.paper.specs.Record.{lastWeighing, sheetOf}
+use Rattle.paper.specs.Refusals.{isNone, weighingNumber, sheetNumber, changeNumber, undoNumber, readingNumber, fileOf}
 
 -- a call that can change the record, with its arguments: the bytes of a file are reading back's
 pub data Call : Type 0 where
@@ -36,6 +37,13 @@ withoutLast (x ∷ y ∷ xs) = x ∷ withoutLast (y ∷ xs)
 abbrev pub entriesOr : List Entry → Option (List Entry) → List Entry
 entriesOr es none = es
 entriesOr es (some fs) = fs
+
+-- a weighing, or a sheet, stands when the journal has one
+unfoldable pub weighingStands : List Entry → Bool
+weighingStands es = not (isNone (lastWeighing es))
+
+unfoldable pub sheetStands : List Entry → Bool
+sheetStands es = not (isNone (sheetOf es))
 
 -- the journal after an accepted call: the entry at its end, or without its last, or the file's entries in its place
 unfoldable pub acceptedCall : List Entry → Call → List Entry

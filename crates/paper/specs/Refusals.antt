@@ -53,7 +53,7 @@ badReading w =
 
 -- 2: a not an arm, or b not 1..2,000,000
 unfoldable pub badDistance : Weighing → Bool
-badDistance w = not (isArm (w .a)) || not (leb 1 (w .b) && isWeight (w .b))
+badDistance w = not (isArm (w .a)) || not (leb 1 (w .b) && leb (w .b) 2000000)
 
 -- what is asked of a weighing, in its order behind 9
 unfoldable pub weighingFaults : Weighing → List (ℕ × Bool)
@@ -113,7 +113,7 @@ isChange x =
 unfoldable pub badChange : Option Balance → Change → Bool
 badChange o x = not (isChange x) || afterwards (λ b. not (isTotal (b .total))) o x
 
--- what is asked of a change where o is the balance, in its order behind 9
+-- what is asked of a change where o is the balance, none of it before a weighing, in its order behind 9
 unfoldable pub changeFaults : Option Balance → Change → List (ℕ × Bool)
 changeFaults o x =
     7 when isNone o ∷ 2 when not (isArm (x .arm)) ∷ 6 when badChange o x ∷ 3 when afterwards (λ b. not (isNonLifting b)) o x ∷ []

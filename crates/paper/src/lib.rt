@@ -1,7 +1,7 @@
 // What paper 01 speaks of, as types: weights and arms, the three entries, a row, and what the calls answer.
 // What the paper says of them is in specs/, a file for each of its headings.
 ghost use mathlib.Core.Path.{_≡_};
-ghost use Rattle.paper.specs.Units.{isWeight, isArm};
+ghost use Rattle.paper.specs.Units.{isArm};
 
 // How many entries a record may hold.
 pub const CAPACITY: usize = 64;
@@ -15,12 +15,6 @@ impl Weight {
     pub const MOST: u64 = 2_000_000;
     // The most that a seat's load and its step may be.
     pub const SEAT: u64 = 500_000;
-
-    pub fn holds(grams: u64) -> bool
-        ensures { λ r. ⌜ r ≡ isWeight grams ⌝ }
-    {
-        grams <= Weight::MOST
-    }
 }
 
 // Whole hundredths of a millimetre, positive aft of the datum.

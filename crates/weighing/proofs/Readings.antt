@@ -12,7 +12,7 @@ use borrow.Author.Tests.{le-leb, lt-leb, leb-true, leb-false, ltb-false, not-fal
 use Rattle.laws.specs.Tests.{left, right, isnt, not-left, not-right}
 use Rattle.laws.specs.Z.{zs, goal-leZ, goal-nleZ, is-nat, is-sub}
 use Rattle.paper.proofs.Numbers.{no-first, no-other}
-use Rattle.paper.proofs.Units.{weight-most, arm-range}
+use Rattle.paper.proofs.Units.{arm-range}
 use Rattle.paper.specs.declared.Weighing.{Weighing}
 use Rattle.paper.specs.Units.{isWeight, isArm}
 use Rattle.paper.specs.Record.{totalOf, weighed}
@@ -130,16 +130,16 @@ n-test w r e = simp (← e, leb·zero)
 
 -- what a weighing without number 2's condition has
 module _ (w : Weighing) (near : badDistance w ≡ false) where
-  distance : (leb 1 (w .b) && isWeight (w .b)) ≡ true
+  distance : (leb 1 (w .b) && leb (w .b) 2000000) ≡ true
   unfolding badDistance
-  distance = not-false _ (not-right (not (isArm (w .a))) (not (leb 1 (w .b) && isWeight (w .b))) near)
+  distance = not-false _ (not-right (not (isArm (w .a))) (not (leb 1 (w .b) && leb (w .b) 2000000)) near)
 
   pub b-most : w .b ≤ 2000000
-  b-most = weight-most (w .b) (right (leb 1 (w .b)) (isWeight (w .b)) distance)
+  b-most = leb-true (w .b) 2000000 (right (leb 1 (w .b)) (leb (w .b) 2000000) distance)
 
   pub a-range : (negsuc 1999999 ≤ℤ w .a) × (w .a ≤ℤ pos 2000000)
   unfolding badDistance
-  a-range = arm-range (w .a) (not-false _ (not-left (not (isArm (w .a))) (not (leb 1 (w .b) && isWeight (w .b))) near))
+  a-range = arm-range (w .a) (not-false _ (not-left (not (isArm (w .a))) (not (leb 1 (w .b) && leb (w .b) 2000000)) near))
 
 -- a weighing that gets no number behind 9
 module _ (w : Weighing) (clear : firstNumber (weighingFaults w) ≡ 0) where

@@ -5,7 +5,7 @@ use mathlib.Core.Path.{_≡_, sym, _∙_}
 use mathlib.Core.Bool.{or-true, true, false}
 use mir.Facts.{toZ-ofZ}
 use Rattle.laws.specs.Tests.{ltb-not}
-use Rattle.paper.specs.Units.{isWeight, isArm}
+use Rattle.paper.specs.Units.{isArm}
 use Rattle.paper.specs.Refusals.{badDistance}
 use Rattle.weighing.proofs.bad_distance.Statement.{statement}
 use Rattle.weighing.proofs.bad_distance.Tie as tie
@@ -26,7 +26,7 @@ unfolding badDistance
 returns-2 c = simp (lt-leb _ _ (c .if2 .taken), or-true)
 
 returns-3 : tie.Need-returns-3
-unfolding badDistance isWeight
+unfolding badDistance
 returns-3 c =
     simp (
       ltb-not,
