@@ -1,0 +1,38 @@
+-- `cases::sample::repeated` ends: its loop counts to 63. Assumes nothing.
+use Prim.Native.Nat.{_≤_, _-_}
+use borrow.Author.Needs.{needs}
+use native.Mathlib.Omega.{arith}
+use Rattle.cases.proofs.sample.repeated.Statement.{statement}
+use Rattle.cases.proofs.sample.repeated.Tie as tie
+
+abbrev Inv-loop : tie.InvT-loop
+Inv-loop step k₀ counter₀ k counter = counter ≤ 63
+
+abbrev μ-loop : tie.MeasureT-loop
+μ-loop step k₀ counter₀ k counter = 63 - counter
+
+loop-holds : tie.Need-loop-holds Inv-loop μ-loop
+loop-holds c = omega arith
+
+call-requires : tie.Need-call-requires Inv-loop μ-loop
+call-requires c κs = search needs
+
+joined-requires : tie.Need-joined-requires Inv-loop μ-loop
+joined-requires c κs = search needs
+
+add-counter : tie.Need-add-counter Inv-loop μ-loop
+add-counter c = omega arith
+
+loop-less : tie.Need-loop-less Inv-loop μ-loop
+loop-less c = omega arith
+
+loop-again : tie.Need-loop-again Inv-loop μ-loop
+loop-again c = omega arith
+
+returns : tie.Need-returns Inv-loop μ-loop
+returns c = search needs
+
+pub repeated-spec : {M : Type 1} → statement M
+repeated-spec =
+    tie.close
+    (tie.spec Inv-loop μ-loop loop-holds call-requires joined-requires add-counter loop-less loop-again returns)

@@ -1,0 +1,470 @@
+"""What the program `cases` prints, by the oracle's reckoning. A line is described in the program's src/main.rt."""
+
+from oracle import Change, Sheet, Weighing, add, centre_of_gravity, undo
+
+MOST_U64 = 2**64 - 1
+LEAST_I64, MOST_I64 = -(2**63), 2**63 - 1
+
+# Ordinary entries; a case alters some of their fields.
+WEIGHING = Weighing(m=1, p=300000, q=30000, a=10000, b=500000, n=100000)
+FRONT, REAR, WATER = (-47500, 55000, 110000, 1000), (10000, 100000, 50000), (30000, 100000, 50000)
+SHEET = Sheet(25000, 42500, 380000, 450000, 240000, *FRONT, *REAR, *WATER)
+SECOND = Weighing(m=3, p=355, q=90, a=50, b=13350, n=0)
+
+FRESH = ()
+BACK = None
+
+
+def weighing(**fields):
+    return WEIGHING._replace(**fields)
+
+
+def sheet(**fields):
+    return SHEET._replace(**fields)
+
+
+def weighed(n=100000):
+    return (weighing(n=n),)
+
+
+def filled(journal):
+    return journal + (64 - len(journal)) * (SHEET,)
+
+
+# Lines.
+
+
+def numbers(journal):
+    return " ".join(map(str, centre_of_gravity(journal)))
+
+
+def answered(label, kept):
+    """What a call answered, and what taking back from there answers; the journal is handed on."""
+    number, journal = kept
+    back, before = undo(journal)
+    print(f"{label}: {number}; {numbers(journal)}; {back}; {numbers(before)}")
+    return journal
+
+
+def call(journal, step):
+    """An entry is added, BACK takes back."""
+    return undo(journal) if step is BACK else add(journal, step)
+
+
+def in_turn(title, journal, steps):
+    for label, step in steps:
+        journal = answered(f"{title}, {label}", call(journal, step))
+    return journal
+
+
+def repeated(journal, step):
+    """The same call 63 times: the greatest number that it gave, and the last journal."""
+    greatest = 0
+    for _ in range(63):
+        number, journal = call(journal, step)
+        greatest = max(greatest, number)
+    return greatest, journal
+
+
+# Worked weighings and rounding.
+
+
+def worked():
+    """A to F, held to their figures as well, and the entries of G to J."""
+    a = Weighing(1, 310000, 29900, 9500, 550000, 0)
+    figures = {
+        "A and B": (a, (0, 310000, 19390000000, 62548)),
+        "C": (Weighing(2, 310000, 280100, -9500, 550000, 0), (0, 310000, 19390000000, 62548)),
+        "D": (Weighing(3, 355, 90, 50, 13350, 0), (0, 445, 1179250, 2650)),
+        "E": (Weighing(4, 460, 15, 3000, 10300, 0), (0, 445, 1180500, 2653)),
+        "F": (Weighing(1, 2, 1, 0, 50001, 0), (0, 2, 50001, 25001)),
+        "F, a -50001": (Weighing(1, 2, 1, -50001, 50001, 0), (0, 2, -50001, -25000)),
+    }
+    for label, (entry, figure) in figures.items():
+        assert centre_of_gravity((entry,)) == figure, label
+        answered(label, add(FRESH, entry))
+    g = Weighing(1, 288000, 0, 63334, 500000, 140000)
+    g_sheet = sheet(rear_arm=0, greatest_rear=0, rear_step=1)
+    j_sheet = Sheet(11200, 30000, 500000, 500000, 0, -123200, 0, 110000, 1000, -11200, 110000, 55000, 0, 0, 1)
+    answered("G, weighing", add(FRESH, g))
+    answered("G, sheet", add((g,), g_sheet))
+    answered("H, change", add((g, g_sheet), Change(4500, -100000, 1)))
+    answered("I, sheet", add((g,), g_sheet._replace(front_arm=41625)))
+    answered("J, sheet", add((a,), j_sheet))
+
+
+def rounding():
+    """A moment of p·a + q over a total of p."""
+    halves = ((2, 1, 0), (2, 1, -1), (2, 1, 1), (2, 1, -2))
+    thirds = ((3, 1, 0), (3, 2, 0), (3, 2, -1), (3, 1, -1), (3, 1, -16667), (3, 0, 0), (3, 0, -5))
+    large = ((999999, 0), (1000000, 0), (1000000, -1), (999999, -1), (1999999, -1))
+    for p, q, a in (*halves, *thirds, *((2000000, *case) for case in large)):
+        answered(f"centre {p * a + q}/{p}", add(FRESH, Weighing(1, p, q, a, 1, 0)))
+
+
+def moments():
+    most = 2000000
+    for m, greatest, least in (
+        (1, (most, most, most), (most, 0, -most)),
+        (2, (most, 0, -most), (most, most, most)),
+        (3, (0, most, -most), (most, 0, most)),
+        (4, (most, 0, most), (most, most - 1, -most)),
+    ):
+        answered(f"method {m}, greatest", add(FRESH, Weighing(m, *greatest, most, 0)))
+        answered(f"method {m}, least", add(FRESH, Weighing(m, *least, most, 0)))
+
+
+# Weighings of a fresh record.
+
+
+def weighing_case(label, **fields):
+    entry = weighing(**fields)
+    answered(f"weighing by method {entry.m}, {label}", add(FRESH, entry))
+
+
+def readings():
+    for m in (0, 1, 2, 3, 4, 5, MOST_U64):
+        weighing_case("ordinary", m=m, n=0)
+    part_of_total = (
+        *(("p 0", 0, 0), ("p 1", 1, 0), ("p 2000000", 2000000, 30000), ("p 2000001", 2000001, 30000)),
+        *(("q 0", 300000, 0), ("q = p", 300000, 300000), ("q = p + 1", 300000, 300001)),
+        *(("q 2000000", 2000000, 2000000), ("q 2000001", 2000000, 2000001)),
+        ("p and q 2000001", 2000001, 2000001),
+    )
+    total_is_sum = (
+        *(("G 0", 0, 0), ("G 1, all in front", 1, 0), ("G 1, all behind", 0, 1)),
+        *(("G 2000000", 1000000, 1000000), ("G 2000001", 1000000, 1000001), ("G 4000000", 2000000, 2000000)),
+        *(("p 2000000", 2000000, 0), ("p 2000001", 2000001, 0)),
+        *(("q 2000000", 0, 2000000), ("q 2000001", 0, 2000001)),
+    )
+    total_is_difference = (
+        *(("p and q 0", 0, 0), ("G 0", 300000, 300000), ("G 1", 300001, 300000), ("G -1", 300000, 300001)),
+        *(("G 2000000", 2000000, 0), ("G 2000001", 2000001, 0), ("p 2000001, G 2000000", 2000001, 1)),
+        *(("q 1999999, G 1", 2000000, 1999999), ("q 2000000, G 0", 2000000, 2000000)),
+        *(("q 2000001, G 1", 2000002, 2000001), ("q 2000001, G -1", 2000000, 2000001)),
+    )
+    for m, cases in ((1, part_of_total), (2, part_of_total), (3, total_is_sum), (4, total_is_difference)):
+        for label, p, q in cases:
+            weighing_case(label, m=m, p=p, q=q, n=0)
+
+
+def distances(m, total):
+    for a in (-2000001, -2000000, 0, 2000000, 2000001):
+        weighing_case(f"a {a}", m=m, a=a)
+    for b in (0, 1, 2000000, 2000001):
+        weighing_case(f"b {b}", m=m, b=b)
+    weighing_case("n 0", m=m, n=0)
+    weighing_case("n = G", m=m, n=total)
+    weighing_case("n = G + 1", m=m, n=total + 1)
+    weighing_case("p at most", m=m, p=MOST_U64, n=0)
+    weighing_case("q at most", m=m, q=MOST_U64, n=0)
+    weighing_case("p and q at most", m=m, p=MOST_U64, q=MOST_U64, n=0)
+    weighing_case("a at least", m=m, a=LEAST_I64)
+    weighing_case("a at most", m=m, a=MOST_I64)
+    weighing_case("b at most", m=m, b=MOST_U64)
+    weighing_case("n at most", m=m, n=MOST_U64)
+
+
+# Sheets for a weighed record.
+
+
+def sheet_case(label, **fields):
+    answered(f"sheet, {label}", add(weighed(), sheet(**fields)))
+
+
+def sheet_arms():
+    for fwd in (-2000001, -2000000):
+        sheet_case(f"FWD {fwd}", fwd=fwd)
+    for fwd in (1999999, 2000000, 2000001):
+        sheet_case(f"FWD {fwd}", fwd=fwd, aft=2000000)
+    for aft in (-2000001, -2000000, -1999999):
+        sheet_case(f"AFT {aft}", fwd=-2000000, aft=aft)
+    for aft in (2000000, 2000001):
+        sheet_case(f"AFT {aft}", aft=aft)
+    sheet_case("FWD = AFT - 1", fwd=42499)
+    sheet_case("FWD = AFT", fwd=42500)
+    sheet_case("FWD = AFT + 1", fwd=42501)
+    for station in ("front", "rear", "water"):
+        for arm in (-2000001, -2000000, 2000000, 2000001):
+            sheet_case(f"{station} arm {arm}", **{f"{station}_arm": arm})
+
+
+def sheet_weights():
+    sheet_case("DRY 0", dry=0)
+    sheet_case("DRY 1", dry=1)
+    sheet_case("DRY and WET 0", dry=0, wet=0)
+    sheet_case("DRY and WET 1", dry=1, wet=1)
+    sheet_case("WET = DRY - 1", wet=379999)
+    sheet_case("WET = DRY", wet=380000)
+    sheet_case("WET 2000000", wet=2000000)
+    sheet_case("WET 2000001", wet=2000001)
+    sheet_case("DRY 2000000", dry=2000000, wet=2000000)
+    sheet_case("DRY 2000001", dry=2000001, wet=2000000)
+    sheet_case("DRY and WET 2000001", dry=2000001, wet=2000001)
+    for nlp in (0, 1, 2000000, 2000001):
+        sheet_case(f"NLP {nlp}", nlp=nlp)
+
+
+def sheet_loads():
+    for label, least, greatest in (
+        *(("least 0", 0, 110000), ("least = greatest", 110000, 110000), ("least = greatest + 1", 110001, 110000)),
+        *(("least and greatest 0", 0, 0), ("greatest 500000", 55000, 500000), ("greatest 500001", 55000, 500001)),
+        *(("least and greatest 500000", 500000, 500000), ("least and greatest 500001", 500001, 500001)),
+    ):
+        sheet_case(label, least_front=least, greatest_front=greatest)
+    for load in (0, 500000, 500001):
+        sheet_case(f"greatest rear {load}", greatest_rear=load)
+    for capacity in (0, 2000000, 2000001):
+        sheet_case(f"capacity {capacity}", capacity=capacity)
+
+
+def sheet_rows():
+    for step in (0, 1, 500000, 500001):
+        sheet_case(f"front step {step}", front_step=step)
+    for step, load in ((0, 0), (1, 0), (500000, 100000), (500001, 100000)):
+        sheet_case(f"rear step {step}", rear_step=step, greatest_rear=load)
+    for step, capacity in ((0, 0), (1, 0), (2000000, 100000), (2000001, 100000)):
+        sheet_case(f"water step {step}", water_step=step, capacity=capacity)
+    for label, load, capacity, step in (
+        *(("1 row", 0, 0, 1), ("1 times 256 rows", 0, 255, 1), ("1 times 257 rows", 0, 256, 1)),
+        *(("256 times 1 rows", 255, 0, 1), ("257 times 1 rows", 256, 0, 1), ("16 times 16 rows", 15, 15, 1)),
+        *(("16 times 17 rows", 15, 16, 1), ("17 times 16 rows", 16, 15, 1)),
+        *(("2 times 128 rows", 1, 127, 1), ("2 times 129 rows", 1, 128, 1)),
+        *(("256 rows, quotient 255 and a half", 0, 511, 2), ("257 rows, quotient 256", 0, 512, 2)),
+        *(("257 rows, quotient 256 and a half", 0, 513, 2), ("1000002500001 rows", 500000, 2000000, 1)),
+    ):
+        sheet_case(label, greatest_rear=load, rear_step=1, capacity=capacity, water_step=step)
+
+
+def sheet_extremes():
+    sheet_case("FWD at least", fwd=LEAST_I64)
+    sheet_case("FWD at most", fwd=MOST_I64)
+    sheet_case("AFT at least", aft=LEAST_I64)
+    sheet_case("AFT at most", aft=MOST_I64)
+    sheet_case("FWD at least and AFT at most", fwd=LEAST_I64, aft=MOST_I64)
+    for station in ("front", "rear", "water"):
+        sheet_case(f"{station} arm at least", **{f"{station}_arm": LEAST_I64})
+        sheet_case(f"{station} arm at most", **{f"{station}_arm": MOST_I64})
+    sheet_case("DRY at most", dry=MOST_U64)
+    sheet_case("WET at most", wet=MOST_U64)
+    sheet_case("DRY and WET at most", dry=MOST_U64, wet=MOST_U64)
+    sheet_case("NLP at most", nlp=MOST_U64)
+    sheet_case("least at most", least_front=MOST_U64)
+    sheet_case("greatest at most", greatest_front=MOST_U64)
+    sheet_case("least and greatest at most", least_front=MOST_U64, greatest_front=MOST_U64, front_step=1)
+    sheet_case("front step at most", front_step=MOST_U64)
+    sheet_case("greatest rear at most", greatest_rear=MOST_U64, rear_step=1)
+    sheet_case("rear step at most", rear_step=MOST_U64)
+    sheet_case("capacity at most", capacity=MOST_U64, water_step=1)
+    sheet_case("water step at most", water_step=MOST_U64)
+    sheet_case("both loads at most", greatest_rear=MOST_U64, capacity=MOST_U64, rear_step=1, water_step=1)
+
+
+# Changes to a weighed record.
+
+
+def change_case(label, c=1000, arm=5000, flag=0):
+    answered(f"change, {label}", add(weighed(), Change(c, arm, flag)))
+
+
+def changes():
+    for arm in (-2000001, -2000000, 0, 2000000, 2000001):
+        change_case(f"arm {arm}", arm=arm)
+    for arm in (-2000000, 2000000):
+        change_case(f"taken out, arm {arm}", c=-1000, arm=arm)
+    for c in (-2000001, -2000000, -1, 0, 1, 2000000, 2000001):
+        change_case(f"c {c}", c=c)
+    for flag in (0, 1, 2):
+        change_case(f"flag {flag}", flag=flag)
+    for total in (-1, 0, 1, 2000000, 2000001):
+        answered(f"change, n 0, G after {total}", add(weighed(n=0), Change(total - 300000, 5000, 0)))
+    for total, c in ((1, 1999999), (1, 2000000), (2000000, -1999999), (2000000, -2000000)):
+        answered(f"change, G {total}, c {c}", add((weighing(p=total, q=0, n=0),), Change(c, 5000, 0)))
+    for n, label, c, flag in (
+        *((100000, "-1", -100001, 1), (100000, "0", -100000, 1), (0, "-1", -1, 1), (0, "1", 1, 1)),
+        *((100000, "= G", -200000, 0), (100000, "= G + 1", -200001, 0), (300000, "= G + 1", -1, 0)),
+        *((300000, "= G", -1, 1), (300000, "= G = 1", -299999, 1), (300000, "= G = 0", -300000, 1)),
+        *((300000, "= G = 2000000", 1700000, 1), (300000, "= G - 1", 1, 0)),
+    ):
+        answered(f"change, n {n}, n after {label}", add(weighed(n=n), Change(c, 5000, flag)))
+
+
+def change_extremes():
+    change_case("c at least", c=LEAST_I64)
+    change_case("c at most", c=MOST_I64)
+    change_case("c at least, flag 1", c=LEAST_I64, flag=1)
+    change_case("c at most, flag 1", c=MOST_I64, flag=1)
+    change_case("arm at least", arm=LEAST_I64)
+    change_case("arm at most", arm=MOST_I64)
+    change_case("flag at most", flag=MOST_U64)
+    change_case("c and arm at least", LEAST_I64, LEAST_I64, MOST_U64)
+    change_case("c and arm at most", MOST_I64, MOST_I64, MOST_U64)
+
+
+# Two or more conditions at once.
+
+
+def weighing_orders(full):
+    def faulty(m=1, a=10000, n=0):
+        return weighing(m=m, a=a, n=n)
+
+    yield "none", FRESH, faulty()
+    yield "full", full, faulty()
+    yield "full and reading", full, faulty(m=0)
+    yield "full and arm", full, faulty(a=2000001)
+    yield "full and non-lifting", full, faulty(n=300001)
+    yield "reading and arm", FRESH, faulty(m=0, a=2000001)
+    yield "reading and non-lifting", FRESH, faulty(m=5, n=300001)
+    yield "arm and non-lifting", FRESH, faulty(a=2000001, n=300001)
+    yield "all but full", FRESH, faulty(m=0, a=2000001, n=300001)
+    yield "all", full, faulty(m=0, a=2000001, n=300001)
+
+
+def sheet_orders(full):
+    here = weighed()
+    yield "none", here, sheet()
+    yield "full", full, sheet()
+    yield "full and arm", full, sheet(fwd=-2000001)
+    yield "full and range", full, sheet(dry=0)
+    yield "full and step", full, sheet(water_step=0)
+    yield "full and rows", full, sheet(water_step=100)
+    yield "arm and range", here, sheet(fwd=-2000001, dry=0)
+    yield "arm and FWD over AFT", here, sheet(fwd=2000001)
+    yield "arm and step", here, sheet(fwd=-2000001, water_step=0)
+    yield "arm and rows", here, sheet(fwd=-2000001, water_step=100)
+    yield "range and step", here, sheet(dry=0, water_step=0)
+    yield "range and rows", here, sheet(dry=0, water_step=100)
+    yield "rows", here, sheet(water_step=100)
+    yield "all but full", here, sheet(fwd=-2000001, dry=0, water_step=0)
+    yield "all", full, sheet(fwd=-2000001, dry=0, water_step=0)
+
+
+def change_orders(full):
+    sheets, here = filled(FRESH), weighed()
+    yield "full and unweighed", sheets, Change(1000, 5000, 0)
+    yield "full", full, Change(1000, 5000, 0)
+    yield "full and arm", full, Change(1000, 2000001, 0)
+    yield "full and change", full, Change(0, 5000, 0)
+    yield "full and G after", full, Change(-300000, 5000, 0)
+    yield "full and non-lifting", full, Change(-100001, 5000, 1)
+    yield "unweighed", FRESH, Change(1000, 5000, 0)
+    yield "unweighed and arm", FRESH, Change(1000, 2000001, 0)
+    yield "unweighed and change", FRESH, Change(0, 5000, 0)
+    yield "unweighed and flag", FRESH, Change(1000, 5000, 2)
+    yield "unweighed and taken out", FRESH, Change(-1000, 5000, 1)
+    yield "all but full", FRESH, Change(0, 2000001, 2)
+    yield "all", sheets, Change(0, 2000001, 2)
+    yield "arm and c", here, Change(0, 2000001, 0)
+    yield "arm and flag", here, Change(1000, -2000001, 2)
+    yield "arm and G after", here, Change(-300000, 2000001, 0)
+    yield "arm and non-lifting", here, Change(-100001, 2000001, 1)
+    yield "c and non-lifting", here, Change(-2000001, 5000, 1)
+    yield "flag and non-lifting", here, Change(-200001, 5000, 2)
+    yield "G after and non-lifting, flag 1", here, Change(-300000, 5000, 1)
+    yield "G after and non-lifting, flag 0", here, Change(-300000, 5000, 0)
+    yield "G after alone", here, Change(1700001, 5000, 1)
+    yield "non-lifting alone, flag 1", here, Change(-100001, 5000, 1)
+    yield "non-lifting alone, flag 0", here, Change(-200001, 5000, 0)
+    yield "arm, c and non-lifting", here, Change(-2000001, 2000001, 1)
+
+
+def orders():
+    full = filled(weighed())
+    calls = {"weighing": weighing_orders, "sheet": sheet_orders, "change": change_orders}
+    for call_name, cases in calls.items():
+        for label, journal, entry in cases(full):
+            answered(f"order of a {call_name}, {label}", add(journal, entry))
+
+
+# The list.
+
+
+def lists():
+    print(f"list, fresh: {numbers(FRESH)}")
+    answered("list, fresh, taken back", undo(FRESH))
+    answered("list, a sheet alone", add(FRESH, SHEET))
+    answered("list, a change behind the sheet", add((SHEET,), Change(1, 0, 0)))
+    answered("list, the sheet taken back", undo((SHEET,)))
+    steps = [("change of the first", Change(1000, 2000, 1)), ("change of the first", Change(-500, -3000, 0))]
+    steps += [("the second", SECOND), ("change of the second", Change(55, -700, 0))] + 3 * [("taken back", BACK)]
+    steps += [("another change", Change(7, 11, 0))] + 4 * [("taken back", BACK)]
+    in_turn("two weighings", weighed(), steps)
+    steps = [("before", SHEET), ("weighing", SECOND), ("behind the weighing", SHEET)]
+    steps += [("change", Change(55, -700, 1)), ("between the changes", SHEET), ("change", Change(-100, 900, 0))]
+    steps += [("behind the changes", SHEET)] + 4 * [("taken back", BACK)]
+    in_turn("sheets", FRESH, steps)
+    steps = [("n 150000", Change(50000, 0, 1)), ("n 0", Change(-150000, 0, 1)), ("n -1", Change(-1, 0, 1))]
+    steps += [("G 2000000", Change(1800000, 0, 0)), ("G 2000001", Change(1, 0, 0)), ("G 1999999", Change(-1, 0, 0))]
+    steps += [("G 2000000, n 1", Change(1, 0, 1)), ("weighed again", SECOND)]
+    steps += [("n -1 again", Change(-1, 0, 1)), ("G 0", Change(-445, 0, 0)), ("G 1", Change(-444, 0, 0))]
+    in_turn("carried", weighed(), steps)
+
+
+def full_lists():
+    change = Change(1, 0, 0)
+    journal = in_turn("64 sheets", FRESH, [("the first", SHEET)])
+    journal = answered("64 sheets, 63 more", repeated(journal, SHEET))
+    steps = [("the 65th", SHEET), ("a weighing", SECOND), ("a change", change), ("63 left", BACK)]
+    steps += [("a change as the 64th", change), ("a weighing as the 64th", SECOND), ("a change as the 65th", change)]
+    journal = in_turn("64 sheets", journal, steps)
+    journal = answered("64 sheets, 1 left", repeated(journal, BACK))
+    in_turn("64 sheets", journal, [("none left", BACK), ("nothing to take back", BACK), ("weighed after all", SECOND)])
+    change = Change(1000, 2000, 1)
+    journal = answered("63 changes", repeated(weighed(), change))
+    steps = [("one more", change), ("a weighing", SECOND), ("62 left", BACK), ("another", Change(-1000, 2000, 0))]
+    journal = in_turn("63 changes", journal, steps)
+    journal = answered("63 changes, none left", repeated(journal, BACK))
+    in_turn("63 changes", journal, [("the weighing taken back", BACK), ("nothing to take back", BACK)])
+
+
+def widest():
+    """All but 1 g taken out at one arm and put in at the other, by turns, in 63 changes."""
+    for label, q, arm, b in (("greatest", 2000000, 2000000, 2000000), ("least", 0, -2000000, 1)):
+        out, back = Change(-1999999, -arm, 0), Change(1999999, arm, 0)
+        journal = (Weighing(1, 2000000, q, arm, b, 0),) + 31 * (out, back)
+        answered(f"{label} moment", add(journal, out))
+
+
+def refused():
+    journal = in_turn("refused", weighed(), [("sheet", SHEET), ("change", Change(1000, 2000, 1))])
+    for label, entry in (
+        ("reading", weighing(p=0, q=0, n=0)),
+        ("weighing's arm", weighing(a=0, b=0)),
+        ("non-lifting", weighing(n=300001)),
+        ("sheet's arm", sheet(water_arm=2000001, capacity=0, water_step=1)),
+        ("sheet's range", sheet(fwd=0, aft=0)),
+        ("sheet's rows", sheet(greatest_rear=0, rear_step=1, capacity=256, water_step=1)),
+        ("change's arm", Change(1, 2000001, 0)),
+        ("change's weight", Change(0, 0, 0)),
+        ("total after", Change(-301000, 0, 0)),
+        ("non-lifting after", Change(-101001, 0, 1)),
+    ):
+        answered(f"refused, {label}", add(journal, entry))
+    steps = [("sheet", SHEET), ("reading", weighing(m=0, p=1, q=0, n=0)), ("arm", weighing(a=0, b=0))]
+    steps += [("non-lifting", weighing(n=300001)), ("change", Change(0, 0, 0))]
+    steps += [("non-lifting after", Change(-100001, 0, 1)), ("accepted", Change(-100000, 0, 1))]
+    steps += 3 * [("taken back", BACK)] + [("nothing to take back", BACK), ("unweighed", Change(1, 0, 0))]
+    steps += [("reading", weighing(p=0, q=0, n=0)), ("weighed again", SECOND)]
+    in_turn("in turn", weighed(), steps)
+
+
+def report():
+    worked()
+    rounding()
+    moments()
+    readings()
+    for m, total in ((1, 300000), (2, 300000), (3, 330000), (4, 270000)):
+        distances(m, total)
+    sheet_case("ordinary")
+    sheet_arms()
+    sheet_weights()
+    sheet_loads()
+    sheet_rows()
+    sheet_extremes()
+    changes()
+    change_extremes()
+    orders()
+    lists()
+    full_lists()
+    widest()
+    refused()
