@@ -7,7 +7,7 @@ use paper::Weight;
 ghost use mathlib.Core.Path.{_≡_};
 ghost use mathlib.Core.Bool.{cond, _&&_};
 ghost use mathlib.Core.Option.{some};
-ghost use Prim.Native.Nat.{_+_, _*_, _^_, _≤_, _<_};
+ghost use Prim.Native.Nat.{_+_, _^_, _≤_, _<_};
 ghost use lib.Dec.{leb, eqb};
 ghost use Rattle.paper.specs.Record as paper;
 ghost use Rattle.paper.specs.Refusals.{isChange, changeFaults, firstNumber};

@@ -1,8 +1,7 @@
 -- A list with one entry more: its balance and the number that the entry gets, by recursion on the list. Assumes nothing.
-use mathlib.Core.Path.{_≡_, refl, sym, _∙_, ap}
+use mathlib.Core.Path.{_≡_, refl, _∙_, ap}
 use mathlib.Core.List.{List, [], _∷_, _++_}
 use mathlib.Core.Option.{Option, none, some, Option·map, orElse}
-use Prim.Native.Nat.{ℕ}
 use lib.ListN.{length}
 use Rattle.paper.specs.declared.Weighing.{Weighing}
 use Rattle.paper.specs.declared.Sheet.{Sheet}
@@ -10,7 +9,7 @@ use Rattle.paper.specs.declared.Change.{Change}
 use Rattle.paper.specs.declared.Entry.{Entry}
 use Rattle.paper.specs.declared.Entry.the-variants as entry
 use Rattle.paper.specs.Record.{Balance, weighed, changed, changedBy, changesOf, opened, lastWeighing, balanceOf}
-use Rattle.paper.specs.Refusals.{firstNumber, full, weighingNumber, sheetNumber, changeNumber, entryNumber}
+use Rattle.paper.specs.Refusals.{full, weighingNumber, sheetNumber, changeNumber, entryNumber}
 use Rattle.judge.specs.Standing.{numberAt, after}
 
 -- a weighing is the last

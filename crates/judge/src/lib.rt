@@ -5,7 +5,6 @@ use paper::Change;
 use paper::Entry;
 use paper::Sheet;
 use paper::Weighing;
-ghost use mathlib.Core.Path.{_≡_};
 ghost use mathlib.Core.Option.{some, Option·map};
 ghost use Prim.Native.Nat.{ℕ, _+_};
 ghost use Rattle.paper.specs.Record as paper;

@@ -1,12 +1,12 @@
 -- The quotient of an integer by a natural, rounded down: `shrZ` of `lib.Signed`. It is the one x with n * x ≤ z < n * x + n.
 -- Assumes nothing.
 use mathlib.Core.Path.{_≡_}
-use Prim.Native.Nat.{ℕ, suc, _+_, _*_, _/_, _%_, _≤_, _<_}
+use Prim.Native.Nat.{ℕ, suc, _+_, _*_, _/_, _≤_, _<_}
 use native.Mathlib.Nat.{div-add-mod', mod-lt, lt-of-mul-lt-mul-left}
 use native.Mathlib.Omega.{arith}
 use lib.IntN.{ℤ, pos, negsuc, _+ℤ_, _*ℤ_}
 use lib.Signed.{shrZ, _≤ℤ_, _<ℤ_}
-use Rattle.laws.specs.Z.{up, dn, zs, is-nat, is-int, is-add, is-mul, hyp-le, hyp-lt}
+use Rattle.laws.specs.Z.{up, dn, zs, is-nat, is-int, is-add, is-mul}
 
 -- z is in the step of n that begins at n * x
 pub record Step (n : ℕ) (x z : ℤ) : Type 0 where

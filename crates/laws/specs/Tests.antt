@@ -56,15 +56,6 @@ pub not-right : (a b : Bool) → (a || b) ≡ false → b ≡ false
 not-right true b e = cc
 not-right false b e = e
 
--- one of the two passes
-pub by-left : (a b : Bool) → a ≡ true → (a || b) ≡ true
-by-left true b e = refl
-by-left false b e = cc
-
-pub by-right : (a b : Bool) → b ≡ true → (a || b) ≡ true
-by-right true b e = refl
-by-right false b e = e
-
 -- the other way round
 pub turned : (a : Bool) → a ≡ true → not a ≡ false
 turned true e = refl

@@ -4,7 +4,7 @@ ghost use mathlib.Core.Path.{_≡_};
 ghost use Prim.Native.Nat.{_*_, _/_, _^_, _≤_, _<_};
 ghost use lib.IntN.{pos, negsuc, _-ℤ_};
 ghost use lib.Signed.{_≤ℤ_};
-ghost use Rattle.laws.specs.Z.{PartsOf};
+ghost use Rattle.laws.specs.Z.{SidesOf};
 
 // A signed number as what stands above 0 and below 0; one of the two is 0.
 pub struct Sides {
@@ -23,7 +23,7 @@ pub fn size(x: i64) -> u64
 // The two sides of a number from -2000000 to 2000000.
 pub fn split(x: i64) -> Sides
     requires { ⌜ (negsuc 1999999 ≤ℤ x) × (x ≤ℤ pos 2000000) ⌝ }
-    ensures { λ r. ⌜ PartsOf x (r .up) (r .down) ⌝ }
+    ensures { λ r. ⌜ SidesOf x (r .up) (r .down) ⌝ }
 {
     if x < 0 {
         Sides {

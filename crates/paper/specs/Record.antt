@@ -1,6 +1,6 @@
 -- "The record": what a list of entries says. G, M and n, the empty centre of gravity and the sheet in force, all of the
 -- list alone, its first entry first.
-use mathlib.Core.Bool.{Bool, true, false, cond}
+use mathlib.Core.Bool.{cond}
 use mathlib.Core.List.{List, [], _∷_}
 use mathlib.Core.Option.{Option, none, some, Option·map, orElse}
 use Prim.Native.Nat.{ℕ, _*_}

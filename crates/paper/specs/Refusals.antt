@@ -1,12 +1,12 @@
 -- "Numbers of refusal": for each call the conditions of its numbers in its order, and the number that it gets on a list.
 use mathlib.Core.Bool.{Bool, true, false, cond, not, _&&_, _||_}
 use mathlib.Core.List.{List, [], _∷_, _++_}
-use mathlib.Core.Option.{Option, none, some, Option·map}
-use Prim.Native.Nat.{ℕ, zero, suc}
+use mathlib.Core.Option.{Option, none, some}
+use Prim.Native.Nat.{ℕ}
 use lib.Dec.{leb, ltb, eqb}
 use lib.IntN.{ℤ, pos, negℤ, natAbs}
 use lib.ListN.{length}
-use lib.Signed.{leZ, ltZ}
+use lib.Signed.{ltZ}
 use Rattle.paper.specs.declared.Station.{Station}
 use Rattle.paper.specs.declared.Weighing.{Weighing}
 use Rattle.paper.specs.declared.Sheet.{Sheet}

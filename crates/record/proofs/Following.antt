@@ -2,9 +2,9 @@
 -- number that the call gets. Assumes nothing.
 use mathlib.Core.Path.{_≡_, refl, sym, _∙_, ap}
 use mathlib.Core.Bool.{Bool, true, false, cond}
-use mathlib.Core.List.{List, [], _∷_, _++_}
+use mathlib.Core.List.{List, [], _∷_}
 use mathlib.Core.Option.{Option, none, some}
-use Prim.Native.Nat.{ℕ, _<_}
+use Prim.Native.Nat.{ℕ}
 use native.Mathlib.Decide.{decLt}
 use native.Mathlib.Omega.{arith}
 use lib.Dec.{eqb}
@@ -12,7 +12,7 @@ use lib.ListN.{length}
 use borrow.Author.Tests.{eqb-true}
 use Rattle.paper.specs.declared.Entry.{Entry}
 use Rattle.paper.specs.declared.Entry.the-variants as entry
-use Rattle.paper.specs.Refusals.{entryNumber, weighingNumber, sheetNumber, changeNumber, acceptedAfter, accepted, onlyAccepted, fileOf}
+use Rattle.paper.specs.Refusals.{entryNumber, acceptedAfter, accepted, onlyAccepted, fileOf}
 use Rattle.paper.specs.File.{laidOut}
 use Rattle.paper.specs.Journal.{Call, weigh, install, change, undo, read, callNumber, acceptedCall, afterCall, withoutLast, entriesOr}
 use Rattle.record.specs.declared.Record.{Record}

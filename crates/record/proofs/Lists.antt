@@ -4,13 +4,12 @@ use mathlib.Core.Bool.{true}
 use mathlib.Core.List.{List, [], _∷_, _++_, map, append-assoc}
 use Prim.Native.Nat.{ℕ, suc, _+_, _-_, _≤_, _<_}
 use native.Mathlib.Omega.{arith}
-use lib.ListN.{length, take, set, replicate, length-map}
+use lib.ListN.{length, set, replicate, length-map}
 use lib.Seq.{set-at, take-at}
 use Rattle.laws.specs.Lists.{map-append, map-back, length-more}
 use Rattle.paper.specs.declared.Entry.{Entry}
 use Rattle.paper.specs.Refusals.{accepted}
 use Rattle.paper.specs.Journal.{withoutLast}
-use Rattle.record.specs.declared.Slot.{Slot}
 use Rattle.record.specs.declared.Record.{Record}
 use Rattle.record.specs.Held.{slotOf, entryIn, unusedSlot, recordOf, slotted, heldBy, put}
 use Rattle.record.proofs.Turns.{replayed-accepted}

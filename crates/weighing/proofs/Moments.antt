@@ -4,17 +4,17 @@ use mathlib.Core.Path.{_≡_, ap}
 use Prim.Native.Nat.{ℕ, _+_, _-_, _*_, _≤_}
 use native.Mathlib.Omega.{arith}
 use lib.IntN.{pos, _-ℤ_}
-use Rattle.laws.specs.Z.{zs, Is, PartsOf, is-parts, is-nat, is-add, is-sub, is-mul}
+use Rattle.laws.specs.Z.{zs, Is, SidesOf, is-sides, is-nat, is-add, is-sub, is-mul}
 use Rattle.paper.specs.declared.Weighing.{Weighing}
 use Rattle.paper.specs.Record.{totalOf, momentOf}
 
-module _ (w : Weighing) (u d x y : ℕ) (e : PartsOf (w .a) u d) where
+module _ (w : Weighing) (u d x y : ℕ) (e : SidesOf (w .a) u d) where
   -- what the contract says
   abbrev pub Right : Type 0
   Right = pos x -ℤ pos y ≡ momentOf w
 
   a : Is (w .a) u d
-  a = is-parts e
+  a = is-sides e
 
   out : Is (pos x -ℤ pos y) (x + 0) (0 + y)
   out = is-sub (is-nat x) (is-nat y)

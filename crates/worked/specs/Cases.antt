@@ -1,15 +1,11 @@
 -- "Plates worked through": the paper's cases, computed from the definitions.
 use mathlib.Core.Path.{_≡_, refl}
 use mathlib.Core.List.{List, [], _∷_, map}
-use mathlib.Core.Option.{Option, none, some}
 use Prim.Native.Nat.{ℕ}
 use lib.IntN.{ℤ, pos, negℤ}
 use Rattle.paper.specs.declared.Station.{Station}
 use Rattle.paper.specs.declared.Weighing.{Weighing}
 use Rattle.paper.specs.declared.Sheet.{Sheet}
-use Rattle.paper.specs.declared.Change.{Change}
-use Rattle.paper.specs.declared.Entry.{Entry}
-use Rattle.paper.specs.declared.Entry.the-variants as entry
 use Rattle.paper.specs.declared.Row.{Row}
 use Rattle.paper.specs.declared.Row.the-variants.{Range, Blank}
 use Rattle.paper.specs.Record.{Balance, totalOf, momentOf, weighed, changed, centreOf}

@@ -4,7 +4,7 @@ use mathlib.Core.Path.{refl}
 use Prim.Native.Nat.{_+_, _-_}
 use native.Mathlib.Omega.{arith}
 use mir.Facts.{toZ-ofZ}
-use Rattle.laws.specs.Z.{PartsOf, is-parts}
+use Rattle.laws.specs.Z.{SidesOf, is-sides}
 use Rattle.paper.proofs.Units.{arm-range}
 use Rattle.balance.specs.declared.Balance.{Balance}
 use Rattle.change.proofs.Changes.{c-range, counted-most, arm-fine, change-fine, least-total, most-total, least-part, most-part, after-is}
@@ -22,10 +22,10 @@ split-requires-2 c κs =
     rw (toZ-ofZ (record { sfits = c .struct-told2 .given .1 .0 .1 })) (arm-range (s .args .x .arm) (arm-fine (s .args .b) (s .args .x) (s .pre .1)))
 
 -- the calls of `split` speak of what is read back from the bits
-sides : (s : tie.After-split) → PartsOf (s .before .before .args .x .c) (s .split .result .up) (s .split .result .down)
+sides : (s : tie.After-split) → SidesOf (s .before .before .args .x .c) (s .split .result .up) (s .split .result .down)
 sides s = rw (toZ-ofZ (record { sfits = s .before .struct-told .given .0 .1 })) at (s .split .ensures)
 
-arms : (s : tie.After-split2) → PartsOf (s .before .before .before .before .args .x .arm) (s .split2 .result .up) (s .split2 .result .down)
+arms : (s : tie.After-split2) → SidesOf (s .before .before .before .before .args .x .arm) (s .split2 .result .up) (s .split2 .result .down)
 arms s = rw (toZ-ofZ (record { sfits = s .before .struct-told2 .given .1 .0 .1 })) at (s .split2 .ensures)
 
 nonlifting-of-requires : tie.Need-nonlifting-of-requires
@@ -37,7 +37,7 @@ add-t6 c = search needs
 sub-t7 : tie.Need-sub-t7
 sub-t7 c =
     let s = c .before .before .before .before .before .before .before .before in
-    omega (arith, least-total (s .args .b) (s .args .x) (s .pre .1) _ _ (is-parts (sides (c .before .before .before .before .before .before))))
+    omega (arith, least-total (s .args .b) (s .args .x) (s .pre .1) _ _ (is-sides (sides (c .before .before .before .before .before .before))))
 
 times-requires : tie.Need-times-requires
 times-requires c κs = search needs
@@ -73,14 +73,14 @@ sub-t17 : tie.Need-sub-t17
 sub-t17 c =
     let s = c .before .before .before .before .before .before .before .before .before .before .before .before .before .before .before .before .before in
     let n = c .before .before .before .before .before .before .before .before .before .before .before .before .nonlifting-of .ensures in
-    rw (n .0, n .1) (least-part (s .args .b) (s .args .x) (s .pre .1) _ _ (is-parts (sides (c .before .before .before .before .before .before .before .before .before .before .before .before .before .before .before))))
+    rw (n .0, n .1) (least-part (s .args .b) (s .args .x) (s .pre .1) _ _ (is-sides (sides (c .before .before .before .before .before .before .before .before .before .before .before .before .before .before .before))))
 
 returns : tie.Need-returns
 returns c =
     let s = c .before .before .before .before .before .before .before .before .before .before .before .before .before .before .before .before .before in
     let n = c .before .before .before .before .before .before .before .before .before .before .before .before .nonlifting-of .ensures in
-    let i = is-parts (sides (c .before .before .before .before .before .before .before .before .before .before .before .before .before .before .before)) in
-    let j = is-parts (arms (c .before .before .before .before .before .before .before .before .before .before .before .before .before)) in
+    let i = is-sides (sides (c .before .before .before .before .before .before .before .before .before .before .before .before .before .before .before)) in
+    let j = is-sides (arms (c .before .before .before .before .before .before .before .before .before .before .before .before .before)) in
     let b = s .args .b in
     let x = s .args .x in
     let least = least-total b x (s .pre .1) _ _ i in

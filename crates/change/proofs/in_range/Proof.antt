@@ -1,7 +1,6 @@
 -- `change::in_range` meets its contract: each way out by the law of its test, once c is read back from its bits.
 -- Assumes nothing.
-use mathlib.Core.Path.{_≡_, sym, _∙_, ap}
-use lib.IntN.{pos}
+use mathlib.Core.Path.{sym, _∙_, ap}
 use mir.Syntax.{w64}
 use mir.Val.{toZ, ofZ}
 use mir.Facts.{toZ-ofZ}

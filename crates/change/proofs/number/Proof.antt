@@ -1,14 +1,14 @@
 -- `change::number` meets its contract: each way out by the law of what holds there. Assumes nothing.
 use borrow.Author.Needs.{needs}
 use borrow.Author.Tests.{leb-true}
-use mathlib.Core.Path.{_≡_, sym, _∙_, ap, ap₂}
-use mathlib.Core.Bool.{Bool, true, false, _&&_}
-use Prim.Native.Nat.{ℕ, _+_, _-_, _≤_}
+use mathlib.Core.Path.{_≡_, sym, _∙_}
+use mathlib.Core.Bool.{true}
+use Prim.Native.Nat.{_+_, _≤_}
 use native.Mathlib.Omega.{arith}
 use lib.Dec.{leb}
 use mir.Facts.{toZ-ofZ}
 use Rattle.laws.specs.Tests.{left, failed, passed}
-use Rattle.laws.specs.Z.{Is, PartsOf, is-parts}
+use Rattle.laws.specs.Z.{SidesOf, is-sides}
 use Rattle.paper.specs.Units.{isArm}
 use Rattle.paper.specs.Record as paper
 use Rattle.paper.specs.Refusals.{isTotal, isNonLifting, isChange}
@@ -48,7 +48,7 @@ split-requires : tie.Need-split-requires
 split-requires c κs =
     rw (toZ-ofZ (record { sfits = c .struct-told2 .given .0 .1 })) (c-range _ (change-fine (c .before)))
 
-sides : (s : tie.After-split) → PartsOf (s .before .before .before .before .before .before .before .args .x .c) (s .split .result .up) (s .split .result .down)
+sides : (s : tie.After-split) → SidesOf (s .before .before .before .before .before .before .before .args .x .c) (s .split .result .up) (s .split .result .down)
 sides s = rw (toZ-ofZ (record { sfits = s .before .struct-told2 .given .0 .1 })) at (s .split .ensures)
 
 stays-requires : tie.Need-stays-requires
@@ -58,7 +58,7 @@ stays-requires c κs = search needs
 total : (c : tie.After-stays) → c .stays .result ≡ isTotal (paper.changed (plain (c .before .before .before .before .before .before .before .before .args .b)) (c .before .before .before .before .before .before .before .before .args .x) .total)
 total c =
     let g = c .before .before .before .before .before .before .before .before .args in
-    c .stays .ensures ∙ sym (total-test (g .b) (g .x) _ _ (is-parts (sides (c .before))))
+    c .stays .ensures ∙ sym (total-test (g .b) (g .x) _ _ (is-sides (sides (c .before))))
 
 returns-3 : tie.Need-returns-3
 returns-3 c =
@@ -93,7 +93,7 @@ part : (c : tie.After-stays2) → c .stays2 .result ≡ isNonLifting (paper.chan
 part c =
     let g = c .before .before .before .before .before .before .before .before .before .before .before .before .before .before .args in
     let n = c .before .before .before .before .nonlifting-of .ensures in
-    rw (n .0, n .1) at (c .stays2 .ensures) ∙ sym (part-test (g .b) (g .x) _ _ (is-parts (sides (c .before .before .before .before .before .before .before))) (less (c .before .before .before .before .before)))
+    rw (n .0, n .1) at (c .stays2 .ensures) ∙ sym (part-test (g .b) (g .x) _ _ (is-sides (sides (c .before .before .before .before .before .before .before))) (less (c .before .before .before .before .before)))
 
 returns-4 : tie.Need-returns-4
 returns-4 c =

@@ -1,6 +1,5 @@
 -- `judge::judge` meets its contract: 9 first, then by the entry's own judgement. Assumes nothing.
 use borrow.Author.Needs.{needs}
-use Prim.Native.Nat.{_<_}
 use native.Mathlib.Omega.{arith}
 use Rattle.judge.specs.Standing.{plainly}
 use Rattle.judge.proofs.Judging.{grown, full-at, room-at}

@@ -1,8 +1,7 @@
 -- `judge::judge_change` meets its contract: no weighing is 7; else by the balance that stands. Assumes nothing.
 use borrow.Author.Needs.{needs}
-use mathlib.Core.Path.{_≡_, ap, sym, _∙_}
+use mathlib.Core.Path.{ap, sym, _∙_}
 use mathlib.Core.Option.{Option, some}
-use Prim.Native.Nat.{ℕ}
 use native.Mathlib.Omega.{arith}
 use Rattle.paper.specs.Record as paper
 use Rattle.balance.specs.Balance.{Bounded}

@@ -1,6 +1,5 @@
 -- `laws::split` meets its contract. Assumes nothing.
 use native.Mathlib.Omega.{arith}
-use lib.IntN.{ℤ, pos}
 use Rattle.laws.specs.Z.{zs, rd, back, is-nat, is-int, is-sub}
 use Rattle.laws.proofs.split.Statement.{statement}
 use Rattle.laws.proofs.split.Tie as tie

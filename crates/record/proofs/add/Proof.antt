@@ -1,10 +1,10 @@
 -- `record::add` meets its contract: the list that the record holds settles the number and the record. Assumes nothing.
 use borrow.Author.Needs.{needs}
-use mathlib.Core.Path.{_≡_, sym, _∙_, ap}
+use mathlib.Core.Path.{sym, _∙_}
 use mathlib.Core.List.{[], _∷_, _++_}
 use native.Mathlib.Omega.{arith}
 use Rattle.judge.proofs.Judging.{room-of}
-use Rattle.record.specs.Held.{recordOf, heldBy}
+use Rattle.record.specs.Held.{heldBy}
 use Rattle.record.proofs.Replays.{sound-at, number-is, log-more}
 use Rattle.record.proofs.Calls.{refused-is, accepted-is}
 use Rattle.record.proofs.add.Statement.{statement}

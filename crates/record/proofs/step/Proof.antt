@@ -1,7 +1,5 @@
 -- `record::step` meets its contract: what is refused is passed over, what is accepted goes behind. Assumes nothing.
 use borrow.Author.Needs.{needs}
-use mathlib.Core.Path.{_≡_}
-use Rattle.judge.specs.Standing.{plainly, numberAt, after, Says}
 use Rattle.judge.proofs.Judging.{room-of}
 use Rattle.record.proofs.Replays.{passed-over, gone-on}
 use Rattle.record.proofs.step.Statement.{statement}

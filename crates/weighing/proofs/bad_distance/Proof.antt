@@ -1,8 +1,8 @@
 -- `weighing::bad_distance` meets its contract: each way out computes the tests so far. Assumes nothing.
 use borrow.Author.Needs.{needs}
 use borrow.Author.Tests.{lt-leb, le-leb}
-use mathlib.Core.Path.{_≡_, sym, _∙_}
-use mathlib.Core.Bool.{or-true, true, false}
+use mathlib.Core.Path.{_≡_, sym}
+use mathlib.Core.Bool.{or-true}
 use mir.Facts.{toZ-ofZ}
 use Rattle.laws.specs.Tests.{ltb-not}
 use Rattle.paper.specs.Units.{isArm}

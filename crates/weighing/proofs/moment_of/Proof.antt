@@ -3,7 +3,7 @@ use mathlib.Core.Path.{_≡_}
 use Prim.Native.Nat.{_≤_}
 use native.Mathlib.Omega.{arith}
 use mir.Facts.{toZ-ofZ}
-use Rattle.laws.specs.Z.{PartsOf}
+use Rattle.laws.specs.Z.{SidesOf}
 use Rattle.weighing.specs.Moments.{InRange}
 use Rattle.weighing.proofs.Readings.{p-most, q-most, b-most, a-range, in-2, in-4, last}
 use Rattle.weighing.proofs.Moments.{moment-1, moment-2, moment-3, moment-4}
@@ -15,7 +15,7 @@ split-requires c κs =
     rw (toZ-ofZ (record { sfits = c .struct-told .given .1 .1 .1 .0 .1 })) (a-range (c .before .args .w) (c .before .pre .1))
 
 -- the call of `split` speaks of what is read back from the bits of a, which is a
-sides : (s : tie.After-split) → PartsOf (s .before .before .args .w .a) (s .split .result .up) (s .split .result .down)
+sides : (s : tie.After-split) → SidesOf (s .before .before .args .w .a) (s .split .result .up) (s .split .result .down)
 sides s = rw (toZ-ofZ (record { sfits = s .before .struct-told .given .1 .1 .1 .0 .1 })) at (s .split .ensures)
 
 ranged : (s : tie.After-split) → InRange (s .before .before .args .w) (s .split .result)

@@ -2,7 +2,7 @@
 use borrow.Author.Needs.{needs}
 use borrow.Author.Tests.{le-leb, lt-leb}
 use mathlib.Core.Path.{_≡_, sym, _∙_}
-use mathlib.Core.Bool.{true, false}
+use mathlib.Core.Bool.{false}
 use Rattle.paper.specs.Refusals.{firstNumber, badReading, badDistance, weighingFaults}
 use Rattle.weighing.proofs.Readings.{n-test}
 use Rattle.weighing.proofs.number.Statement.{statement}

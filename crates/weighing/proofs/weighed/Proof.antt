@@ -1,9 +1,8 @@
 -- `weighing::weighed` meets its contract: G by `total`, M by `moment_of`, n as given. Assumes nothing.
-use mathlib.Core.Path.{_≡_, sym, _∙_}
+use mathlib.Core.Path.{sym, _∙_}
 use native.Mathlib.Omega.{arith}
 use borrow.Author.Tests.{leb-true}
 use Rattle.paper.specs.Record as paper
-use Rattle.balance.specs.Balance.{plain}
 use Rattle.weighing.proofs.Readings.{reading-fine, distance-fine, n-fine, n-test}
 use Rattle.weighing.proofs.weighed.Statement.{statement}
 use Rattle.weighing.proofs.weighed.Tie as tie

@@ -1,15 +1,12 @@
 -- `record::Record::centre_of_gravity` meets its contract: what stands is the balance of the list that the record holds.
 -- Assumes nothing.
 use borrow.Author.Needs.{needs}
-use mathlib.Core.Path.{_≡_, sym, _∙_, ap}
-use mathlib.Core.Option.{Option, some}
+use mathlib.Core.Path.{sym, _∙_, ap}
 use native.Mathlib.Omega.{arith}
 use mir.Facts.{toZ-ofZ}
-use Rattle.paper.specs.Record as paper
 use Rattle.balance.specs.Balance.{plain, Bounded}
 use Rattle.judge.specs.Standing.{plainly}
 use Rattle.judge.proofs.Judging.{grown, of-weighed}
-use Rattle.record.specs.Held.{heldBy}
 use Rattle.record.proofs.Replays.{held-most}
 use Rattle.record.proofs.Calls.{centre-none, centre-some}
 use Rattle.record.proofs.Record.centre_of_gravity.Statement.{statement}

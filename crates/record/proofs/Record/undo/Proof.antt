@@ -1,6 +1,6 @@
 -- `record::Record::undo` meets its contract: the list that the record holds is bare, or loses its last. Assumes nothing.
 use borrow.Author.Needs.{needs}
-use mathlib.Core.Path.{_≡_, sym, _∙_, ap}
+use mathlib.Core.Path.{sym, _∙_, ap}
 use Prim.Native.Nat.{_≤_}
 use native.Mathlib.Omega.{arith}
 use Rattle.paper.specs.Journal.{callNumber, acceptedCall, withoutLast}
