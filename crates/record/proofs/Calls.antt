@@ -12,13 +12,18 @@ use Rattle.paper.specs.Record.{Balance, balanceOf, centreOf}
 use Rattle.paper.specs.Refusals.{firstNumber, isNone, undoNumber, centreNumber}
 use Rattle.paper.specs.Answers.{centreGiven, centreRefused, centreAnswer}
 use Rattle.record.specs.declared.Record.{Record}
+use Rattle.record.specs.declared.Kept.{Kept}
 use Rattle.record.specs.Held.{recordOf, keptOr}
+
+-- an accepted call's answer
+abbrev pub kept : Record → Kept
+kept l = record { number = 0; log = l }
 
 pub refused-is : (n : ℕ) (r : Record) (es : List Entry) → 0 < n → keptOr n r es ≡ record { number = n; log = r }
 unfolding keptOr
 refused-is n r es h = rw (ne-eqb n 0 (λ e. omega arith))
 
-pub accepted-is : (n : ℕ) (r : Record) (es : List Entry) → n ≡ 0 → keptOr n r es ≡ record { number = 0; log = recordOf es }
+pub accepted-is : (n : ℕ) (r : Record) (es : List Entry) → n ≡ 0 → keptOr n r es ≡ kept (recordOf es)
 unfolding keptOr
 accepted-is n r es e = rw (eq-eqb n 0 e)
 

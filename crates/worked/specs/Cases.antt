@@ -1,17 +1,29 @@
 -- "Plates worked through": the paper's cases, computed from the definitions.
 use mathlib.Core.Path.{_≡_, refl}
-use mathlib.Core.List.{List, [], _∷_, map}
+use mathlib.Core.Bool.{true}
+use mathlib.Core.List.{List, [], _∷_, _++_, map}
+use mathlib.Core.Option.{Option, none, some, orElse, bind}
 use Prim.Native.Nat.{ℕ}
 use lib.IntN.{ℤ, pos, negℤ}
+use lib.ListN.{take, replicate}
 use Rattle.paper.specs.declared.Station.{Station}
 use Rattle.paper.specs.declared.Weighing.{Weighing}
 use Rattle.paper.specs.declared.Sheet.{Sheet}
 use Rattle.paper.specs.declared.Row.{Row}
 use Rattle.paper.specs.declared.Row.the-variants.{Range, Blank}
-use Rattle.paper.specs.Record.{Balance, totalOf, momentOf, weighed, changed, centreOf}
-use Rattle.paper.specs.Rows.{weightWith, momentWith, lines, all, keepsAt, upTo, isStep, keeps, smallest, largest, rowOf, row}
-use Rattle.paper.specs.Rows.{below, loadsOf, joined, loads}
-use Rattle.paper.specs.File.{bytesOf, bodyBytes, fileBytes}
+use Rattle.paper.specs.declared.Entry.{Entry}
+use Rattle.paper.specs.declared.Entry.the-variants as entry
+use Rattle.paper.specs.declared.Placard.{Placard}
+use Rattle.paper.specs.Units.{isWeight, isArm}
+use Rattle.paper.specs.Record.{Balance, totalOf, momentOf, weighed, changed, changedBy, changesOf, lastWeighing, balanceOf, centreOf, sheetOf}
+use Rattle.paper.specs.Rows.{weightWith, momentWith, lines, all, anyFails, keepsAt, breaksAt, upTo, isStep, keeps, smallest, largest, rowOf, row}
+use Rattle.paper.specs.Rows.{below, loadsOf, joined, loads, rowCount}
+use Rattle.paper.specs.Placard.{digits, kilograms, ends, line, text, textLength, blankOf, blankCount}
+use Rattle.paper.specs.File.{bytesOf, numberOf, fieldBytes, fieldValue, layoutOf, entryOf, fieldsBytes, entryBytes, bodyBytes, fileBytes, takeNumber, takeFields, takeEntry, takeEntries, takeBody, laidOut}
+use Rattle.paper.specs.Refusals.{firstNumber, full, isTotal, isNonLifting, badReading, badDistance, weighingFaults, weighingNumber, badArms, badRanges, badRows, sheetFaults, sheetNumber, isNone, changeFaults, changeNumber}
+use Rattle.paper.specs.Refusals.{undoNumber, placardTooLong, placardNumber, entryNumber, acceptedAfter, accepted, fileOf, readingNumber}
+use Rattle.paper.specs.Answers.{over, placardGiven, placardRefused, placardAnswer}
+use Rattle.paper.specs.Journal.{Call, weigh, install, change, undo, read, callNumber, withoutLast, acceptedCall, afterCall, journalFrom, numbersFrom, journal, numbers}
 
 minus : ℕ → ℤ
 minus n = negℤ (pos n)
@@ -129,6 +141,109 @@ J-rows : dryRows J (weighed blanik) (0 ∷ 55000 ∷ 110000 ∷ []) ≡ Range 69
 unfolding dryRows J blanik weighed totalOf momentOf
 J-rows = refl
 
+-- ---- the placard's bytes
+
+-- the three lines that the paper prints of G
+G-lines : line 0 0 (Range 71000 92000) ++ line 0 50000 (Range 71000 92000) ++ line 0 100000 Blank ≡
+    48 ∷ 48 ∷ 48 ∷ 48 ∷ 46 ∷ 48 ∷ 48 ∷ 48 ∷ 32 ∷ 48 ∷ 48 ∷ 48 ∷ 48 ∷ 46 ∷ 48 ∷ 48 ∷ 48 ∷ 32 ∷
+    48 ∷ 48 ∷ 55 ∷ 49 ∷ 46 ∷ 48 ∷ 48 ∷ 48 ∷ 32 ∷ 48 ∷ 48 ∷ 57 ∷ 50 ∷ 46 ∷ 48 ∷ 48 ∷ 48 ∷ 10 ∷
+    48 ∷ 48 ∷ 48 ∷ 48 ∷ 46 ∷ 48 ∷ 48 ∷ 48 ∷ 32 ∷ 48 ∷ 48 ∷ 53 ∷ 48 ∷ 46 ∷ 48 ∷ 48 ∷ 48 ∷ 32 ∷
+    48 ∷ 48 ∷ 55 ∷ 49 ∷ 46 ∷ 48 ∷ 48 ∷ 48 ∷ 32 ∷ 48 ∷ 48 ∷ 57 ∷ 50 ∷ 46 ∷ 48 ∷ 48 ∷ 48 ∷ 10 ∷
+    48 ∷ 48 ∷ 48 ∷ 48 ∷ 46 ∷ 48 ∷ 48 ∷ 48 ∷ 32 ∷ 48 ∷ 49 ∷ 48 ∷ 48 ∷ 46 ∷ 48 ∷ 48 ∷ 48 ∷ 32 ∷
+    45 ∷ 45 ∷ 45 ∷ 45 ∷ 45 ∷ 45 ∷ 45 ∷ 45 ∷ 32 ∷ 45 ∷ 45 ∷ 45 ∷ 45 ∷ 45 ∷ 45 ∷ 45 ∷ 45 ∷ 10 ∷ []
+unfolding line kilograms digits ends
+G-lines = refl
+
+-- J has no water, so its whole placard computes
+J-text : List ℕ
+J-text =
+    48 ∷ 48 ∷ 48 ∷ 48 ∷ 46 ∷ 48 ∷ 48 ∷ 48 ∷ 32 ∷ 48 ∷ 48 ∷ 48 ∷ 48 ∷ 46 ∷ 48 ∷ 48 ∷ 48 ∷ 32 ∷
+    48 ∷ 48 ∷ 54 ∷ 57 ∷ 46 ∷ 48 ∷ 48 ∷ 48 ∷ 32 ∷ 48 ∷ 49 ∷ 49 ∷ 48 ∷ 46 ∷ 48 ∷ 48 ∷ 48 ∷ 10 ∷
+    48 ∷ 48 ∷ 53 ∷ 53 ∷ 46 ∷ 48 ∷ 48 ∷ 48 ∷ 32 ∷ 48 ∷ 48 ∷ 48 ∷ 48 ∷ 46 ∷ 48 ∷ 48 ∷ 48 ∷ 32 ∷
+    48 ∷ 48 ∷ 53 ∷ 52 ∷ 46 ∷ 48 ∷ 48 ∷ 48 ∷ 32 ∷ 48 ∷ 49 ∷ 48 ∷ 57 ∷ 46 ∷ 48 ∷ 48 ∷ 48 ∷ 10 ∷
+    48 ∷ 49 ∷ 49 ∷ 48 ∷ 46 ∷ 48 ∷ 48 ∷ 48 ∷ 32 ∷ 48 ∷ 48 ∷ 48 ∷ 48 ∷ 46 ∷ 48 ∷ 48 ∷ 48 ∷ 32 ∷
+    48 ∷ 48 ∷ 52 ∷ 48 ∷ 46 ∷ 48 ∷ 48 ∷ 48 ∷ 32 ∷ 48 ∷ 48 ∷ 56 ∷ 48 ∷ 46 ∷ 48 ∷ 48 ∷ 48 ∷ 10 ∷ []
+
+J-entries : List Entry
+J-entries = entry.Weighing blanik ∷ entry.Sheet J ∷ []
+
+J-placard : List ℕ → Placard × List ℕ
+unfolding placardAnswer placardGiven placardRefused over placardNumber placardTooLong firstNumber isNone sheetOf balanceOf lastWeighing changesOf changedBy orElse text textLength blankCount blankOf rowCount loads loadsOf joined below line kilograms digits ends row rowOf smallest largest keeps isStep upTo keepsAt all lines weightWith momentWith weighed totalOf momentOf J-entries J blanik weighing station minus
+J-placard buffer = placardAnswer J-entries buffer
+
+-- bytes behind the last line stay; one byte too few is 11, and the buffer as lent
+J-given : J-placard (replicate 110 7) ≡ (record { number = 0; bytes = 108; rows = 3; blank = 0 }, J-text ++ 7 ∷ 7 ∷ [])
+unfolding J-placard J-text
+J-given = refl
+
+J-short : J-placard (replicate 107 7) ≡ (record { number = 11; bytes = 0; rows = 0; blank = 0 }, replicate 107 7)
+unfolding J-placard
+J-short = refl
+
+-- with the tank full only, G's second row would begin at 64 kg: that step keeps the limits with 50 kg and breaks one with none
+full-only : keepsAt (astir (minus 47500)) empty 0 64000 50000 ≡ true
+unfolding keepsAt all lines weightWith momentWith astir empty minus
+full-only = refl
+
+broken-empty : breaksAt (astir (minus 47500)) empty 0 64000 0 ≡ true
+unfolding breaksAt anyFails lines weightWith momentWith astir empty minus
+broken-empty = refl
+
+-- ---- the file's bytes
+
+G-entries : List Entry
+unfolding astir minus
+G-entries =
+    entry.Weighing (record { m = 1; p = 288000; q = 0; a = pos 63334; b = 500000; n = 140000 }) ∷ entry.Sheet (astir (minus 47500)) ∷ []
+
+G-file : List ℕ
+G-file =
+    0 ∷ 0 ∷ 0 ∷ 85 ∷ 1 ∷ 2 ∷ 1 ∷ 1 ∷ 0 ∷ 4 ∷ 101 ∷ 0 ∷ 0 ∷ 0 ∷ 0 ∷ 0 ∷ 0 ∷ 0 ∷
+    247 ∷ 102 ∷ 0 ∷ 7 ∷ 161 ∷ 32 ∷ 0 ∷ 2 ∷ 34 ∷ 224 ∷ 2 ∷ 0 ∷ 0 ∷ 97 ∷ 168 ∷ 0 ∷ 0 ∷ 166 ∷
+    4 ∷ 0 ∷ 5 ∷ 204 ∷ 96 ∷ 0 ∷ 6 ∷ 221 ∷ 208 ∷ 0 ∷ 3 ∷ 169 ∷ 128 ∷ 255 ∷ 255 ∷ 70 ∷ 116 ∷ 0 ∷
+    0 ∷ 214 ∷ 216 ∷ 0 ∷ 1 ∷ 173 ∷ 176 ∷ 0 ∷ 0 ∷ 3 ∷ 232 ∷ 0 ∷ 0 ∷ 0 ∷ 0 ∷ 0 ∷ 0 ∷ 0 ∷
+    0 ∷ 0 ∷ 0 ∷ 0 ∷ 1 ∷ 0 ∷ 0 ∷ 117 ∷ 48 ∷ 0 ∷ 1 ∷ 134 ∷ 160 ∷ 0 ∷ 0 ∷ 195 ∷ 80 ∷ []
+
+G-written : fileBytes G-entries ≡ G-file
+unfolding fileBytes bodyBytes entryBytes fieldsBytes fieldBytes bytesOf layoutOf joined G-entries G-file astir station minus
+G-written = refl
+
+-- the list that some bytes are the file of
+read-back : List ℕ → Option (List Entry)
+unfolding fileOf laidOut takeBody takeEntries takeEntry takeFields takeNumber numberOf fieldValue layoutOf entryOf bind accepted acceptedAfter entryNumber weighingNumber sheetNumber changeNumber weighingFaults sheetFaults changeFaults firstNumber full isTotal isNonLifting badReading badDistance badArms badRanges badRows rowCount isWeight isArm weighed totalOf momentOf
+read-back xs = fileOf xs
+
+G-read : read-back G-file ≡ some G-entries
+unfolding read-back G-file G-entries astir station minus
+G-read = refl
+
+-- a byte left over, and a byte too few
+G-longer : read-back (G-file ++ 0 ∷ []) ≡ none
+unfolding read-back G-file
+G-longer = refl
+
+G-shorter : read-back (take 88 G-file) ≡ none
+unfolding read-back G-file
+G-shorter = refl
+
 K : fileBytes [] ≡ 0 ∷ 0 ∷ 0 ∷ 2 ∷ 1 ∷ 0 ∷ []
 unfolding fileBytes bodyBytes bytesOf joined
 K = refl
+
+K-read : read-back (0 ∷ 0 ∷ 0 ∷ 2 ∷ 1 ∷ 0 ∷ []) ≡ some []
+unfolding read-back
+K-read = refl
+
+-- ---- the journal: a change before a weighing, a weighing, a sheet, taking back, reading K, and taking back from nothing
+
+calls : List Call
+calls =
+    change (record { c = pos 1; arm = pos 0; flag = 0 }) ∷ weigh blanik ∷ install J ∷ undo ∷ read (0 ∷ 0 ∷ 0 ∷ 2 ∷ 1 ∷ 0 ∷ []) ∷ undo ∷ []
+
+calls-numbers : numbers calls ≡ 7 ∷ 0 ∷ 0 ∷ 0 ∷ 0 ∷ 10 ∷ []
+unfolding numbers numbersFrom callNumber afterCall acceptedCall withoutLast undoNumber readingNumber read-back balanceOf lastWeighing changesOf orElse isNone calls blanik weighing J station minus
+calls-numbers = refl
+
+calls-journal : journal calls ≡ []
+unfolding journal journalFrom callNumber afterCall acceptedCall withoutLast undoNumber readingNumber read-back balanceOf lastWeighing changesOf orElse isNone calls blanik weighing J station minus
+calls-journal = refl

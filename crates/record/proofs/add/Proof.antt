@@ -1,12 +1,13 @@
 -- `record::add` meets its contract: the list that the record holds settles the number and the record. Assumes nothing.
 use borrow.Author.Needs.{needs}
-use mathlib.Core.Path.{sym, _∙_}
+use mathlib.Core.Path.{sym, _∙_, ap}
 use mathlib.Core.List.{[], _∷_, _++_}
 use native.Mathlib.Omega.{arith}
 use Rattle.judge.proofs.Judging.{room-of}
+use Rattle.record.specs.declared.Record.{Record}
 use Rattle.record.specs.Held.{heldBy}
 use Rattle.record.proofs.Replays.{sound-at, number-is, log-more}
-use Rattle.record.proofs.Calls.{refused-is, accepted-is}
+use Rattle.record.proofs.Calls.{kept, refused-is, accepted-is}
 use Rattle.record.proofs.add.Statement.{statement}
 use Rattle.record.proofs.add.Tie as tie
 
@@ -41,7 +42,7 @@ returns-2 c =
     let r = c .before .before .before .before .before .replay .result in
     let n = sym (number-is (heldBy (g .r)) r at (g .e)) ∙ says .0 in
     let l = c .appended .ensures ∙ log-more (heldBy (g .r)) r at (g .e) (says .0) in
-    rw l (sym (accepted-is _ (g .r) (heldBy (g .r) ++ g .e ∷ []) n))
+    ap (λ (x : Record). kept x) l ∙ sym (accepted-is _ (g .r) (heldBy (g .r) ++ g .e ∷ []) n)
 
 pub add-spec : {M : Type 1} → statement M
 add-spec =

@@ -5,11 +5,10 @@ use Prim.Native.Nat.{_≤_}
 use native.Mathlib.Omega.{arith}
 use Rattle.paper.specs.Journal.{callNumber, acceptedCall, withoutLast}
 use Rattle.record.specs.declared.Record.{Record}
-use Rattle.record.specs.declared.Kept.{Kept}
 use Rattle.record.specs.Held.{heldBy, answered}
 use Rattle.record.proofs.Lists.{cleared, cleared-is}
 use Rattle.record.proofs.Replays.{count-is, held-most}
-use Rattle.record.proofs.Calls.{refused-is, accepted-is, undo-bare, undo-some}
+use Rattle.record.proofs.Calls.{kept, refused-is, accepted-is, undo-bare, undo-some}
 use Rattle.record.proofs.Record.undo.Statement.{statement}
 use Rattle.record.proofs.Record.undo.Tie as tie
 
@@ -28,9 +27,6 @@ sub-last c = search needs
 
 unused-requires : tie.Need-unused-requires
 unused-requires c κs = search needs
-
-abbrev kept : Record → Kept
-kept l = record { number = 0; log = l }
 
 -- the replay has 64 entries at most
 most : (c : tie.After-replay) → c .replay .result .log .count ≤ 64
