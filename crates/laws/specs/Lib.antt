@@ -1,5 +1,7 @@
 -- Lemmas with nothing of gliders in them.
 pub mod Tests
 pub mod Lists
+pub mod Written
+pub mod Options
 pub mod Z
 pub mod Floor

@@ -1,7 +1,8 @@
--- Lists: `map` over `++`, a function taken back, the last element apart, and one more element of a part. Assumes nothing.
-use mathlib.Core.Path.{_≡_, refl, ap}
+-- Lists: `map` over `++`, a function taken back, the last element apart, one more element of a part, and a list by its
+-- elements. Assumes nothing.
+use mathlib.Core.Path.{_≡_, refl, ap, _∙_}
 use mathlib.Core.List.{List, [], _∷_, _++_, map}
-use Prim.Native.Nat.{ℕ, _+_, _<_}
+use Prim.Native.Nat.{ℕ, zero, suc, _+_, _<_}
 use native.Mathlib.Numerals.{add-one}
 use lib.ListN.{length, take, getD, length-append}
 use lib.Seq.{take-suc}
@@ -21,3 +22,15 @@ length-more xs x = length-append xs (x ∷ [])
 -- one more of the first i
 pub map-take-more : {A B : Type 0} (f : A → B) (xs : List A) (i : ℕ) (d : A) → i < length xs → map f (take (i + 1) xs) ≡ map f (take i xs) ++ f (getD xs i d) ∷ []
 map-take-more f xs i d h = rw (add-one i, take-suc xs i d h, map-append f (take i xs) (getD xs i d ∷ []))
+
+-- the list of f 0, f 1, .. up to n of them
+abbrev pub tabulate : {A : Type 0} → ℕ → (ℕ → A) → List A
+tabulate zero f = []
+tabulate (suc n) f = f zero ∷ tabulate n (λ (i : ℕ). f (suc i))
+
+pub by-elements : {A : Type 0} (n : ℕ) (xs : List A) (d : A) → length xs ≡ n → xs ≡ tabulate n (λ (i : ℕ). getD xs i d)
+by-elements n xs d e = whole xs ∙ ap (λ (k : ℕ). tabulate k (λ (i : ℕ). getD xs i d)) e
+  where
+    whole : (ys : List _) → ys ≡ tabulate (length ys) (λ (i : ℕ). getD ys i d)
+    whole [] = refl
+    whole (y ∷ ys) = ap (λ zs. y ∷ zs) (whole ys)

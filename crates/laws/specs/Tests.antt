@@ -1,7 +1,7 @@
 -- Tests as Bools: what `&&`, `||` and `not` say, both ways. Assumes nothing.
 use mathlib.Core.Path.{_≡_, refl, sym, _∙_}
 use mathlib.Core.Bool.{Bool, true, false, not, _&&_, _||_}
-use Prim.Native.Nat.{ℕ}
+use Prim.Native.Nat.{ℕ, _+_, _-_, _≤_}
 use native.Mathlib.Decide.{decLe}
 use native.Mathlib.Omega.{arith}
 use lib.Dec.{leb, ltb}
@@ -93,4 +93,12 @@ ltb-not a b =
     elim (decLe b a) as (λ d. ltb a b ≡ not (leb b a)) [
       | yes k ↦ simp (le-ltb a b k, le-leb b a k)
       | no k ↦ simp (lt-ltb a b (omega arith), lt-leb b a (omega arith))
+    ]
+
+-- one that stands w behind another
+pub leb-behind : (w t n : ℕ) → w ≤ n → leb t (n - w) ≡ leb (w + t) n
+leb-behind w t n h =
+    elim (decLe (w + t) n) as (λ d. leb t (n - w) ≡ leb (w + t) n) [
+      | yes k ↦ rw (le-leb (w + t) n k) (le-leb t (n - w) (omega arith))
+      | no k ↦ rw (lt-leb (w + t) n (omega arith)) (lt-leb t (n - w) (omega arith))
     ]

@@ -3,7 +3,7 @@
 ghost use mathlib.Core.Path.{_≡_};
 ghost use Prim.Native.Nat.{_*_, _/_, _^_, _≤_, _<_};
 ghost use lib.IntN.{pos, negsuc, _-ℤ_};
-ghost use lib.Signed.{_≤ℤ_};
+ghost use lib.Signed.{_≤ℤ_, _<ℤ_};
 ghost use Rattle.laws.specs.Z.{SidesOf};
 
 // A signed number as what stands above 0 and below 0; one of the two is 0.
@@ -18,6 +18,14 @@ pub fn size(x: i64) -> u64
     ensures { λ r. ⌜ pos r ≡ x ⌝ }
 {
     x as u64
+}
+
+// How far a number below 0 lies under -1, which the least number can tell too.
+pub fn under(x: i64) -> u64
+    requires { ⌜ x <ℤ pos 0 ⌝ }
+    ensures { λ r. ⌜ (x ≡ negsuc r) × (r < 2 ^ 63) ⌝ }
+{
+    size(-1 - x)
 }
 
 // The two sides of a number from -2000000 to 2000000.

@@ -7,6 +7,7 @@ use Prim.Native.Nat.{ℕ, zero, suc, _+_, _*_, _-_, _/_, _%_, _^_}
 use lib.Dec.{leb, eqb}
 use lib.IntN.{ℤ, pos, negsuc, natAbs}
 use lib.ListN.{length, getD, take, drop}
+use lib.Pow.{areBytes}
 use Rattle.paper.specs.declared.Station.{Station}
 use Rattle.paper.specs.declared.Weighing.{Weighing}
 use Rattle.paper.specs.declared.Sheet.{Sheet}
@@ -174,7 +175,10 @@ takeBody [] = none
 takeBody (v ∷ []) = none
 takeBody (v ∷ n ∷ xs) = cond (eqb v version) (takeEntries n xs) none
 
--- the list of entries that some bytes are laid out as: four bytes that spell the length of just what follows, and that
+-- the list of entries that some numbers are laid out as: each is a byte, the first four spell the length of just what
+-- follows, and that is a body
 unfoldable pub laidOut : List ℕ → Option (List Entry)
 laidOut xs =
-    bind (takeNumber 4 xs) (λ (y : ℕ × List ℕ). cond (eqb (y .0) (length (y .1))) (takeBody (y .1)) none)
+    cond (areBytes xs)
+    (bind (takeNumber 4 xs) (λ (y : ℕ × List ℕ). cond (eqb (y .0) (length (y .1))) (takeBody (y .1)) none))
+    none

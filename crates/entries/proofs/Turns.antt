@@ -1,0 +1,77 @@
+-- One field more of a row, read and written: each list of fields grows at its end. Assumes nothing.
+use mathlib.Core.Path.{_≡_, refl, sym, ap, _∙_}
+use mathlib.Core.List.{List, [], _∷_, _++_, append-assoc}
+use Prim.Native.Nat.{ℕ, zero, suc, _+_, _-_, _≤_, _<_}
+use native.Mathlib.Numerals.{add-one}
+use native.Mathlib.Omega.{arith}
+use lib.ListN.{length, getD, take, drop, set, replicate}
+use lib.Seq.{take-suc, length-take-le, set-at, drop-drop}
+use Rattle.laws.specs.Lists.{length-more}
+use Rattle.laws.specs.Written.{written, length-written, written-more}
+use Rattle.paper.specs.File.{bytesOf, numberOf}
+use Rattle.format.specs.Fields.{total, numbersFrom, numbersBytes, total-more, numbers-more, numbers-length, bytes-more, bytes-length}
+use Rattle.layout.specs.Table.{padded}
+
+-- ---- widths
+
+-- the widths before a field, and its own, are among the first c
+pub room : (ws : List ℕ) (i c : ℕ) → i < c → c ≤ length ws → total (take i ws) + getD ws i 0 ≤ total (take c ws)
+unfolding total
+room [] i c h k = absurd (omega arith)
+room (w ∷ ws) i zero h k = absurd (omega arith)
+room (w ∷ ws) zero (suc c) h k = omega arith
+room (w ∷ ws) (suc i) (suc c) h k = omega (arith, room ws i c (omega arith) (omega arith))
+
+pub part : (ws : List ℕ) (i c : ℕ) → i ≤ c → total (take i ws) ≤ total (take c ws)
+unfolding total
+part ws zero c h = omega arith
+part ws (suc i) zero h = absurd (omega arith)
+part [] (suc i) (suc c) h = omega arith
+part (w ∷ ws) (suc i) (suc c) h = omega (arith, part ws i c (omega arith))
+
+-- one more
+pub taken-more : (ws : List ℕ) (i : ℕ) → i < length ws → take (i + 1) ws ≡ take i ws ++ getD ws i 0 ∷ []
+taken-more ws i h = rw (add-one i) (take-suc ws i 0 h)
+
+pub total-taken : (ws : List ℕ) (i : ℕ) → i < length ws → total (take (i + 1) ws) ≡ total (take i ws) + getD ws i 0
+total-taken ws i h = rw (taken-more ws i h) (total-more (take i ws) (getD ws i 0))
+
+-- ---- reading
+
+padded-more : (ns : List ℕ) (x : ℕ) → length ns < 15 → set (padded ns) (length ns) x ≡ padded (ns ++ x ∷ [])
+padded-more ns x h =
+    let e : 15 - length ns ≡ suc (15 - (length ns + 1)) = omega arith in
+    rw (e, length-more ns x, append-assoc ns (x ∷ []) (replicate (15 - (length ns + 1)) 0))
+    (set-at ns 0 (replicate (15 - (length ns + 1)) 0) x (length ns) refl)
+
+-- the first i numbers from `at` on
+abbrev pub readTo : List ℕ → ℕ → List ℕ → ℕ → List ℕ
+readTo s at ws i = padded (numbersFrom (take i ws) (drop at s))
+
+pub read-more : (s : List ℕ) (at : ℕ) (ws : List ℕ) (i : ℕ) (ns : List ℕ) (from x : ℕ) → length ws ≡ 15 → i < 15 → from ≡ at + total (take i ws) → ns ≡ readTo s at ws i → x ≡ numberOf (take (getD ws i 0) (drop from s)) → set ns i x ≡ readTo s at ws (i + 1)
+read-more s at ws i ns from x e h f g k =
+    let ms = numbersFrom (take i ws) (drop at s) in
+    let n : length ms ≡ i = numbers-length (take i ws) (drop at s) ∙ length-take-le i ws (omega arith) in
+    let grown : numbersFrom (take (i + 1) ws) (drop at s) ≡ ms ++ x ∷ [] = rw (taken-more ws i (omega arith), numbers-more (take i ws) (drop at s) (getD ws i 0), drop-drop (total (take i ws)) at s, k, f) in
+    rw (g, grown) (ap (λ (j : ℕ). set (padded ms) j x) (sym n) ∙ padded-more ms x (omega arith))
+
+-- ---- writing
+
+-- the first i numbers, written from `at` on
+abbrev pub writtenTo : List ℕ → ℕ → List ℕ → List ℕ → ℕ → List ℕ
+writtenTo s at ws ns i = written s at (numbersBytes (take i ws) (take i ns))
+
+module _ (s : List ℕ) (at : ℕ) (ws ns : List ℕ) (i : ℕ) (e : length ws ≡ 15) (f : length ns ≡ 15) (h : i ≤ 15) where
+  both : length (take i ws) ≡ length (take i ns)
+  both = length-take-le i ws (omega arith) ∙ sym (length-take-le i ns (omega arith))
+
+  length-put : length (numbersBytes (take i ws) (take i ns)) ≡ total (take i ws)
+  length-put = bytes-length (take i ws) (take i ns) both
+
+  pub put-length : at + total (take i ws) ≤ length s → length (writtenTo s at ws ns i) ≡ length s
+  put-length m = length-written s at (numbersBytes (take i ws) (take i ns)) (omega (arith, length-put))
+
+  pub put-more : (out last : List ℕ) (to : ℕ) → i < 15 → at + total (take i ws) ≤ length s → to ≡ at + total (take i ws) → out ≡ writtenTo s at ws ns i → last ≡ written out to (bytesOf (getD ws i 0) (getD ns i 0)) → last ≡ writtenTo s at ws ns (i + 1)
+  put-more out last to k m t o l =
+      rw (taken-more ws i (omega arith), taken-more ns i (omega arith), bytes-more (take i ws) (take i ns) (getD ws i 0) (getD ns i 0) both, l, t, o, ← length-put)
+      (written-more s at (numbersBytes (take i ws) (take i ns)) (bytesOf (getD ws i 0) (getD ns i 0)) (omega (arith, length-put)))

@@ -1,0 +1,2 @@
+-- What reading an entry at a place finds.
+pub mod Walking

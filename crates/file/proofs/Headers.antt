@@ -1,0 +1,95 @@
+-- Which bytes have a right header, and what they are laid out as then: by the paper's tests, in its order. Assumes nothing.
+use mathlib.Core.Path.{_≡_, refl, sym, ap, _∙_}
+use mathlib.Core.Bool.{Bool, true, false, cond, _&&_, and-true, and-false}
+use mathlib.Core.List.{List, [], _∷_}
+use mathlib.Core.Option.{Option, none, bind}
+use Prim.Native.Nat.{ℕ, _-_, _≤_, _<_}
+use native.Mathlib.Decide.{decLe}
+use native.Mathlib.Omega.{arith}
+use lib.Dec.{leb, eqb}
+use lib.ListN.{length, getD, take, drop, length-drop}
+use lib.Pow.{areBytes}
+use lib.Seq.{drop-drop, getD-drop}
+use borrow.Author.Tests.{le-leb, lt-leb, leb-true, eq-eqb, ne-eqb}
+use Rattle.laws.specs.Tests.{left}
+use Rattle.paper.specs.File.{numberOf, version, takeNumber, takeEntries, takeBody, laidOut}
+use Rattle.file.specs.Parts.{headed}
+
+pub too-few : (xs : List ℕ) → length xs < 6 → headed xs ≡ false
+unfolding headed
+too-few xs h = simp (lt-leb 6 (length xs) h)
+
+pub enough-bytes : (xs : List ℕ) → headed xs ≡ true → 6 ≤ length xs
+unfolding headed
+enough-bytes xs h =
+    let a = leb 6 (length xs) in
+    let b = eqb (numberOf (take 4 xs)) (length xs - 4) in
+    leb-true 6 (length xs) (left a b (left (a && b) (eqb (getD xs 4 0) version) h))
+
+-- n is the number that the first four spell
+module _ (xs : List ℕ) (n : ℕ) (e : n ≡ numberOf (take 4 xs)) where
+  pub by-version : 6 ≤ length xs → n ≡ length xs - 4 → eqb (getD xs 4 0) version ≡ headed xs
+  unfolding headed
+  by-version h f = simp (le-leb 6 (length xs) h, eq-eqb (numberOf (take 4 xs)) (length xs - 4) (sym e ∙ f))
+
+  pub by-length : (n ≡ length xs - 4 → ⊥) → eqb n (length xs - 4) ≡ headed xs
+  unfolding headed
+  by-length f =
+      ne-eqb n (length xs - 4) f
+      ∙ sym (simp (ne-eqb (numberOf (take 4 xs)) (length xs - 4) (λ g. f (e ∙ g)), and-false))
+
+-- ---- what the bytes are laid out as
+
+body-of : (xs : List ℕ) → 2 ≤ length xs → takeBody xs ≡ cond (eqb (getD xs 0 0) version) (takeEntries (getD xs 1 0) (drop 2 xs)) none
+unfolding takeBody
+body-of [] h = absurd (omega arith)
+body-of (v ∷ []) h = absurd (omega arith)
+body-of (v ∷ n ∷ xs) h = refl
+
+body-none : (xs : List ℕ) → length xs < 2 → takeBody xs ≡ none
+unfolding takeBody
+body-none [] h = refl
+body-none (v ∷ []) h = refl
+body-none (v ∷ n ∷ xs) h = absurd (omega arith)
+
+none-either : {A : Type 0} (t : Bool) → cond {A = Option A} t none none ≡ none
+none-either true = refl
+none-either false = refl
+
+tests-both : {A : Type 0} (a b : Bool) (o : Option A) → cond a (cond b o none) none ≡ cond (a && b) o none
+tests-both true b o = refl
+tests-both false b o = refl
+
+-- bytes by their header, where there are enough for one, too few behind the length, and too few for that
+module _ (xs : List ℕ) where
+  behind : length (drop 4 xs) ≡ length xs - 4
+  behind = length-drop 4 xs
+
+  enough : 6 ≤ length xs → laidOut (xs) ≡ cond (areBytes xs) (cond (headed xs) (takeEntries (getD xs 5 0) (drop 6 xs)) none) none
+  unfolding laidOut takeNumber headed bind
+  enough h =
+      rw (
+        le-leb 4 (length xs) (omega arith),
+        le-leb 6 (length xs) h,
+        body-of (drop 4 xs) (omega (arith, behind)),
+        getD-drop 4 xs 0 0,
+        getD-drop 4 xs 1 0,
+        drop-drop 2 4 xs,
+        behind,
+        tests-both (eqb (numberOf (take 4 xs)) (length xs - 4)) (eqb (getD xs 4 0) version) (takeEntries (getD xs 5 0) (drop 6 xs)),
+      )
+
+  too-short : length xs < 6 → laidOut xs ≡ none
+  unfolding laidOut takeNumber bind
+  too-short h =
+      elim (decLe 4 (length xs)) as (λ d. laidOut xs ≡ none) [
+        | yes k ↦ rw (le-leb 4 (length xs) k, body-none (drop 4 xs) (omega (arith, behind)), none-either (eqb (numberOf (take 4 xs)) (length (drop 4 xs))), none-either (areBytes xs))
+        | no k ↦ rw (lt-leb 4 (length xs) (omega arith), none-either (areBytes xs))
+      ]
+
+  pub by-header : areBytes xs ≡ true → laidOut xs ≡ cond (headed xs) (takeEntries (getD xs 5 0) (drop 6 xs)) none
+  by-header b =
+      elim (decLe 6 (length xs)) as (λ d. laidOut xs ≡ cond (headed xs) (takeEntries (getD xs 5 0) (drop 6 xs)) none) [
+        | yes k ↦ rw b at (enough k)
+        | no k ↦ too-short (omega arith) ∙ rw (too-few xs (omega arith))
+      ]

@@ -1,0 +1,79 @@
+-- What is written in all: the header, the entries behind it, and how long they are. Assumes nothing.
+use mathlib.Core.Path.{_≡_, refl, sym, ap, _∙_}
+use mathlib.Core.Bool.{true, false}
+use mathlib.Core.List.{List, [], _∷_, _++_, map, append-assoc}
+use Prim.Native.Nat.{ℕ, _+_, _-_, _≤_, _<_}
+use native.Mathlib.Omega.{arith}
+use lib.ListN.{length, set, drop, length-append}
+use borrow.Author.Tests.{lt-ltb, le-ltb}
+use Rattle.laws.specs.Written.{written, length-written, written-one, written-more, written-first}
+use Rattle.paper.specs.declared.Entry.{Entry}
+use Rattle.paper.specs.declared.Written.{Written}
+use Rattle.paper.specs.File.{bytesOf, version, bodyBytes, fileBytes}
+use Rattle.paper.specs.Refusals.{firstNumber, writingNumber}
+use Rattle.paper.specs.Answers.{over, writtenBy, writtenAnswer}
+use Rattle.format.specs.Numbers.{length-bytes}
+use Rattle.file.specs.Parts.{headerOf}
+use Rattle.file.proofs.Slots.{bytesIn}
+
+pub length-header : (n count : ℕ) → length (headerOf n count) ≡ 6
+length-header n count = omega (arith, length-append (bytesOf 4 n) (version ∷ bytesOf 1 count), length-bytes 4 n, length-bytes 1 count)
+
+-- a file is its header and its entries
+pub file-parts : (es : List Entry) → fileBytes es ≡ headerOf (length (fileBytes es) - 4) (length es) ++ bytesIn es
+unfolding fileBytes bodyBytes
+file-parts es =
+    let body = bodyBytes es in
+    let size : length (fileBytes es) - 4 ≡ length body = omega (arith, length-append (bytesOf 4 (length body)) body, length-bytes 4 (length body)) in
+    rw (size) (sym (append-assoc (bytesOf 4 (length body)) (version ∷ bytesOf 1 (length es)) (bytesIn es)))
+
+pub file-size : (es : List Entry) → length (fileBytes es) ≡ 6 + length (bytesIn es)
+file-size es =
+    let n = length (fileBytes es) - 4 in
+    ap length (file-parts es) ∙ length-append (headerOf n (length es)) (bytesIn es) ∙ ap (λ (k : ℕ). k + length (bytesIn es)) (length-header n (length es))
+
+-- what is written behind the first k bytes
+follows : (s xs ys : List ℕ) (k : ℕ) → length xs ≡ k → k ≤ length s → written (written s 0 xs) k ys ≡ written s 0 (xs ++ ys)
+follows s xs ys k e h =
+    let f : 0 + length xs ≡ k = omega arith in
+    ap (λ (j : ℕ). written (written s 0 xs) j ys) (sym f) ∙ written-more s 0 xs ys (omega arith)
+
+-- ---- the header, as it is put: the length, the version, the count
+
+module _ (s : List ℕ) (n count : ℕ) (h : 6 ≤ length s) where
+  pub length-sized : length (written s 0 (bytesOf 4 n)) ≡ length s
+  length-sized = length-written s 0 (bytesOf 4 n) (omega (arith, length-bytes 4 n))
+
+  versioned : set (written s 0 (bytesOf 4 n)) 4 version ≡ written s 0 (bytesOf 4 n ++ version ∷ [])
+  versioned =
+      written-one (written s 0 (bytesOf 4 n)) 4 version (omega (arith, length-sized))
+      ∙ follows s (bytesOf 4 n) (version ∷ []) 4 (length-bytes 4 n) (omega arith)
+
+  pub header-put : written (set (written s 0 (bytesOf 4 n)) 4 version) 5 (bytesOf 1 count) ≡ written s 0 (headerOf n count)
+  header-put =
+      let five : length (bytesOf 4 n ++ version ∷ []) ≡ 5 = omega (arith, length-append (bytesOf 4 n) (version ∷ []), length-bytes 4 n) in
+      ap (λ (t : List ℕ). written t 5 (bytesOf 1 count)) versioned
+      ∙ follows s (bytesOf 4 n ++ version ∷ []) (bytesOf 1 count) 5 five (omega arith)
+      ∙ ap (written s 0) (append-assoc (bytesOf 4 n) (version ∷ []) (bytesOf 1 count))
+
+-- ---- the answers
+
+pub too-short : (es : List Entry) (s : List ℕ) → length s < length (fileBytes es) → writtenAnswer es s ≡ (record { number = 11; length = 0 }, s)
+unfolding writtenAnswer writtenBy writingNumber firstNumber
+too-short es s h = rw (lt-ltb (length s) (length (fileBytes es)) h)
+
+pub long-enough : (es : List Entry) (s : List ℕ) → length (fileBytes es) ≤ length s → writtenAnswer es s ≡ (record { number = 0; length = length (fileBytes es) }, over (fileBytes es) s)
+unfolding writtenAnswer writtenBy writingNumber firstNumber
+long-enough es s h = rw (le-ltb (length s) (length (fileBytes es)) h)
+
+all-put : (es : List Entry) (s : List ℕ) → length (fileBytes es) ≤ length s → written (written s 0 (headerOf (length (fileBytes es) - 4) (length es))) 6 (bytesIn es) ≡ over (fileBytes es) s
+unfolding over
+all-put es s h =
+    let n = length (fileBytes es) - 4 in
+    follows s (headerOf n (length es)) (bytesIn es) 6 (length-header n (length es)) (omega (arith, file-size es))
+    ∙ ap (written s 0) (sym (file-parts es))
+    ∙ written-first s (fileBytes es)
+
+-- as the code has it: the length, the count and the entries of a record of that list
+pub put-in-all : (es fs : List Entry) (s out last : List ℕ) (n count : ℕ) → fs ≡ es → n ≡ length (fileBytes es) → count ≡ length es → length (fileBytes es) ≤ length s → out ≡ written s 0 (headerOf (n - 4) count) → last ≡ written out 6 (bytesIn fs) → last ≡ over (fileBytes es) s
+put-in-all es fs s out last n count f e c h o l = rw (l, o, f, e, c) (all-put es s h)

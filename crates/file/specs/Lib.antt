@@ -1,0 +1,2 @@
+-- What reading a file answers, and the header.
+pub mod Parts

@@ -1,0 +1,137 @@
+-- The values of an entry that gets no number fit their fields: each range of the numbers is one that a field holds.
+-- Assumes nothing.
+use mathlib.Core.Path.{_≡_, refl, ap}
+use mathlib.Core.Bool.{Bool, true, false, not, _&&_, and-false, or-true}
+use mathlib.Core.List.{List, [], _∷_}
+use mathlib.Core.Option.{Option}
+use Prim.Native.Nat.{ℕ, suc, _*_, _-_, _^_, _≤_, _<_}
+use native.Mathlib.Omega.{arith}
+use lib.Dec.{leb, eqb}
+use lib.IntN.{ℤ, pos, negsuc, natAbs}
+use lib.Signed.{leZ, _≤ℤ_}
+use borrow.Author.Tests.{not-false, le-leb, lt-leb, leb-true}
+use Rattle.laws.specs.Tests.{kept, left, right}
+use Rattle.laws.specs.Z.{zs}
+use Rattle.paper.specs.declared.Weighing.{Weighing}
+use Rattle.paper.specs.declared.Sheet.{Sheet}
+use Rattle.paper.specs.declared.Change.{Change}
+use Rattle.paper.specs.declared.Entry.{Entry}
+use Rattle.paper.specs.declared.Entry.the-variants as entry
+use Rattle.paper.specs.Units.{isWeight, isArm}
+use Rattle.paper.specs.Record.{Balance, totalOf, weighed, balanceOf}
+use Rattle.paper.specs.File.{Field, complement, fieldValue, byte, word, signedWord, layoutOf, valuesOf}
+use Rattle.paper.specs.Refusals.{firstNumber, isTotal, isNonLifting, badReading, badDistance, weighingFaults, weighingNumber, badArms, badRanges, badRows, sheetFaults, sheetNumber, isNone, isChange, badChange, changeFaults, changeNumber, entryNumber, full}
+use Rattle.paper.proofs.Numbers.{no-first, no-other}
+use Rattle.paper.proofs.Units.{arm-range}
+use Rattle.format.specs.Rows.{fieldsOf}
+
+-- a value fits a field: what is written of it is no longer than the field, and reads as it
+pub record Fit (f : Field) (v : ℤ) : Type 0 where
+  pub small : complement (f .width) v < 256 ^ f .width
+  pub reads : fieldValue f (complement (f .width) v) ≡ v
+
+-- values fit these fields, one each
+infixr 60 _and_
+pub data AllFit : List Field → List ℤ → Type 0 where
+  done : AllFit [] []
+  _and_ : {f : Field} {v : ℤ} {fs : List Field} {vs : List ℤ} → Fit f v → AllFit fs vs → AllFit (f ∷ fs) (v ∷ vs)
+
+-- ---- the kinds of field
+
+fit-byte : (n : ℕ) → n ≤ 4 → Fit byte (pos n)
+unfolding fieldValue
+fit-byte n h = record { small = omega arith; reads = refl }
+
+fit-word : (n : ℕ) → n ≤ 2000000 → Fit word (pos n)
+unfolding fieldValue
+fit-word n h = record { small = omega arith; reads = refl }
+
+fit-signed : (z : ℤ) → (negsuc 1999999 ≤ℤ z) × (z ≤ℤ pos 2000000) → Fit signedWord z
+unfolding fieldValue
+fit-signed (pos n) h =
+    let k : n ≤ 2000000 = omega (arith, zs, h .1) in
+    record { small = omega arith; reads = rw (lt-leb (256 ^ 4) (2 * n) (omega arith)) }
+fit-signed (negsuc n) h =
+    let k : suc n ≤ 2000000 = omega (arith, zs, h .0) in
+    record { small = omega arith; reads = rw (le-leb (256 ^ 4) (2 * (256 ^ 4 - suc n)) (omega arith)) (ap negsuc (omega arith)) }
+
+-- ---- the entries
+
+-- a bound whose failing would be a fault
+most : {q : Bool} (a b : ℕ) → q ≡ false → (leb a b ≡ false → q ≡ true) → a ≤ b
+most a b e f = leb-true a b (kept (leb a b) e f)
+
+-- an arm whose failing would be a fault
+arm : {q : Bool} (z : ℤ) → q ≡ false → (isArm z ≡ false → q ≡ true) → (negsuc 1999999 ≤ℤ z) × (z ≤ℤ pos 2000000)
+arm z e f = arm-range z (kept (isArm z) e f)
+
+-- n is at most G
+n-most : (w : Weighing) → badReading w ≡ false → isNonLifting (weighed w) ≡ true → w .n ≤ 2000000
+unfolding badReading isTotal isNonLifting weighed
+n-most w e h =
+    let g = kept (leZ (totalOf w) (pos 2000000)) e (λ k. simp (k, and-false, or-true)) in
+    let l = right (leZ (pos 0) (pos (w .n))) (leZ (pos (w .n)) (totalOf w)) h in
+    omega (arith, zs)
+
+weighing-fits : (w : Weighing) → firstNumber (weighingFaults w) ≡ 0 → AllFit (fieldsOf (entry.Weighing w)) (valuesOf (entry.Weighing w))
+unfolding weighingFaults layoutOf badReading badDistance isWeight
+weighing-fits w e =
+    let e₂ = no-other 1 (badReading w) _ (omega arith) e in
+    let reading = no-first 1 (badReading w) _ (omega arith) e in
+    let distance = no-first 2 (badDistance w) _ (omega arith) e₂ in
+    let part = no-first 3 (not (isNonLifting (weighed w))) [] (omega arith) (no-other 2 (badDistance w) _ (omega arith) e₂) in
+    fit-byte (w .m) (most (w .m) 4 reading (λ h. simp (h, and-false)))
+    and fit-word (w .p) (most (w .p) 2000000 reading (λ h. simp (h, or-true)))
+    and fit-word (w .q) (most (w .q) 2000000 reading (λ h. simp (h, or-true)))
+    and fit-signed (w .a) (arm (w .a) distance (λ h. simp h))
+    and fit-word (w .b) (most (w .b) 2000000 distance (λ h. simp (h, and-false, or-true)))
+    and fit-word (w .n) (n-most w reading (not-false (isNonLifting (weighed w)) part))
+    and done
+
+sheet-fits : (s : Sheet) → firstNumber (sheetFaults s) ≡ 0 → AllFit (fieldsOf (entry.Sheet s)) (valuesOf (entry.Sheet s))
+unfolding sheetFaults layoutOf badArms badRanges badRows isWeight
+sheet-fits s e =
+    let e₄ = no-other 2 (badArms s) _ (omega arith) e in
+    let arms = no-first 2 (badArms s) _ (omega arith) e in
+    let ranges = no-first 4 (badRanges s) _ (omega arith) e₄ in
+    let rows = no-first 5 (badRows s) [] (omega arith) (no-other 4 (badRanges s) _ (omega arith) e₄) in
+    let front = most (s .front .most) 500000 ranges (λ h. simp (h, and-false)) in
+    let least = most (s .least) (s .front .most) ranges (λ h. simp (h, and-false)) in
+    fit-signed (s .fwd) (arm (s .fwd) arms (λ h. simp h))
+    and fit-signed (s .aft) (arm (s .aft) arms (λ h. simp (h, and-false)))
+    and fit-word (s .dry) (most (s .dry) 2000000 ranges (λ h. simp (h, and-false)))
+    and fit-word (s .wet) (most (s .wet) 2000000 ranges (λ h. simp (h, and-false)))
+    and fit-word (s .nlp) (most (s .nlp) 2000000 ranges (λ h. simp (h, and-false)))
+    and fit-signed (s .front .arm) (arm (s .front .arm) arms (λ h. simp (h, and-false)))
+    and fit-word (s .least) (omega arith)
+    and fit-word (s .front .most) (omega arith)
+    and fit-word (s .front .step) (omega (arith, most (s .front .step) 500000 rows (λ h. simp (h, and-false))))
+    and fit-signed (s .rear .arm) (arm (s .rear .arm) arms (λ h. simp (h, and-false)))
+    and fit-word (s .rear .most) (omega (arith, most (s .rear .most) 500000 ranges (λ h. simp (h, and-false))))
+    and fit-word (s .rear .step) (omega (arith, most (s .rear .step) 500000 rows (λ h. simp (h, and-false))))
+    and fit-signed (s .water .arm) (arm (s .water .arm) arms (λ h. simp (h, and-false)))
+    and fit-word (s .water .most) (most (s .water .most) 2000000 ranges (λ h. simp (h, and-false)))
+    and fit-word (s .water .step) (most (s .water .step) 2000000 rows (λ h. simp (h, and-false)))
+    and done
+
+change-fine : (o : Option Balance) (x : Change) → badChange o x ≡ false → isChange x ≡ true
+unfolding badChange
+change-fine o x e = kept (isChange x) e (λ h. simp h)
+
+change-fits : (o : Option Balance) (x : Change) → firstNumber (changeFaults o x) ≡ 0 → AllFit (fieldsOf (entry.Change x)) (valuesOf (entry.Change x))
+unfolding changeFaults layoutOf isChange isArm
+change-fits o x e =
+    let e₂ = no-other 7 (isNone o) _ (omega arith) e in
+    let at = no-first 2 (not (isArm (x .arm))) _ (omega arith) e₂ in
+    let range = change-fine o x (no-first 6 (badChange o x) _ (omega arith) (no-other 2 (not (isArm (x .arm))) _ (omega arith) e₂)) in
+    let some = not (eqb (natAbs (x .c)) 0) in
+    fit-signed (x .c) (arm-range (x .c) (left (isArm (x .c)) some (left (isArm (x .c) && some) (leb (x .flag) 1) range)))
+    and fit-signed (x .arm) (arm-range (x .arm) (not-false (isArm (x .arm)) at))
+    and fit-byte (x .flag) (omega (arith, leb-true (x .flag) 1 (right (isArm (x .c) && some) (leb (x .flag) 1) range)))
+    and done
+
+pub entry-fits : (es : List Entry) (e : Entry) → entryNumber es e ≡ 0 → AllFit (fieldsOf e) (valuesOf e)
+unfolding entryNumber weighingNumber sheetNumber changeNumber
+entry-fits es (entry.Weighing w) n = weighing-fits w (no-other 9 (full es) _ (omega arith) n)
+entry-fits es (entry.Sheet s) n = sheet-fits s (no-other 9 (full es) _ (omega arith) n)
+entry-fits es (entry.Change x) n = change-fits (balanceOf es) x (no-other 9 (full es) _ (omega arith) n)

@@ -1,0 +1,1 @@
+// The file's definitions, both ways: theorems only, in specs/. No code of its own.

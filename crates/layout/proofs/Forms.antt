@@ -1,0 +1,79 @@
+-- Each kind of entry by its words and back, and its row of the table: all compute, once a list is taken by its elements.
+-- Assumes nothing.
+use mathlib.Core.Path.{_≡_, refl, sym, ap}
+use mathlib.Core.Bool.{Bool, true, false, cond}
+use mathlib.Core.List.{List, [], _∷_}
+use mathlib.Core.Option.{none}
+use Prim.Native.Nat.{ℕ}
+use lib.Dec.{eqb}
+use lib.IntN.{ℤ}
+use lib.ListN.{length, getD}
+use borrow.Author.Tests.{ne-eqb, eqb-true}
+use Rattle.laws.specs.Lists.{by-elements}
+use Rattle.paper.specs.declared.Station.{Station}
+use Rattle.paper.specs.declared.Weighing.{Weighing}
+use Rattle.paper.specs.declared.Sheet.{Sheet}
+use Rattle.paper.specs.declared.Change.{Change}
+use Rattle.paper.specs.declared.Entry.{Entry}
+use Rattle.paper.specs.declared.Entry.the-variants as entry
+use Rattle.paper.specs.File.{signedWord, fieldValue, layoutOf, entryOf}
+use Rattle.paper.specs.Refusals.{isNone}
+use Rattle.format.specs.Fields.{valuesBy}
+use Rattle.layout.specs.Table.{entryWith}
+
+-- ---- the table
+
+pub no-row : (k : ℕ) → (k ≡ 1 → ⊥) → (k ≡ 2 → ⊥) → (k ≡ 3 → ⊥) → layoutOf k ≡ none
+unfolding layoutOf
+no-row k a b c = rw (ne-eqb k 1 a, ne-eqb k 2 b, ne-eqb k 3 c)
+
+third : (t : Bool) (k : ℕ) → eqb k 3 ≡ t → isNone (cond t (layoutOf 3) none) ≡ false → k ≡ 3
+unfolding isNone
+third true k e h = eqb-true k 3 e
+third false k e h = cc
+
+pub last-row : (k : ℕ) → isNone (layoutOf k) ≡ false → (k ≡ 1 → ⊥) → (k ≡ 2 → ⊥) → k ≡ 3
+unfolding layoutOf
+last-row k h a b = third (eqb k 3) k refl (rw (ne-eqb k 1 a, ne-eqb k 2 b) at h)
+
+-- ---- from words to an entry
+
+-- the value of a signed field at a place
+abbrev arm : List ℕ → ℕ → ℤ
+arm ns i = fieldValue signedWord (getD ns i 0)
+
+abbrev pub weighingIn : List ℕ → Weighing
+weighingIn ns = record { m = getD ns 0 0; p = getD ns 1 0; q = getD ns 2 0; a = arm ns 3; b = getD ns 4 0; n = getD ns 5 0 }
+
+abbrev pub stationIn : List ℕ → ℕ → ℕ → ℕ → Station
+stationIn ns i j k = record { arm = arm ns i; most = getD ns j 0; step = getD ns k 0 }
+
+abbrev pub sheetIn : List ℕ → Sheet
+sheetIn ns =
+    record {
+      fwd = arm ns 0;
+      aft = arm ns 1;
+      dry = getD ns 2 0;
+      wet = getD ns 3 0;
+      nlp = getD ns 4 0;
+      front = stationIn ns 5 7 8;
+      least = getD ns 6 0;
+      rear = stationIn ns 9 10 11;
+      water = stationIn ns 12 13 14;
+    }
+
+abbrev pub changeIn : List ℕ → Change
+changeIn ns = record { c = arm ns 0; arm = arm ns 1; flag = getD ns 2 0 }
+
+module _ (ns : List ℕ) (e : length ns ≡ 15) where
+  pub weighing-in : entry.Weighing (weighingIn ns) ≡ entryWith 1 ns
+  unfolding entryWith layoutOf entryOf valuesBy fieldValue
+  weighing-in = sym (ap (entryWith 1) (by-elements 15 ns 0 e))
+
+  pub sheet-in : entry.Sheet (sheetIn ns) ≡ entryWith 2 ns
+  unfolding entryWith layoutOf entryOf valuesBy fieldValue
+  sheet-in = sym (ap (entryWith 2) (by-elements 15 ns 0 e))
+
+  pub change-in : entry.Change (changeIn ns) ≡ entryWith 3 ns
+  unfolding entryWith layoutOf entryOf valuesBy fieldValue
+  change-in = sym (ap (entryWith 3) (by-elements 15 ns 0 e))

@@ -1,0 +1,47 @@
+-- `layout::change_of` meets its contract: each field is a word, or the number that it stands for. Assumes nothing.
+use borrow.Author.Needs.{needs}
+use mathlib.Core.Path.{_≡_}
+use lib.ListN.{length}
+use mir.Facts.{toZ-ofZ}
+use Rattle.layout.proofs.Forms.{change-in}
+use Rattle.layout.proofs.change_of.Statement.{statement}
+use Rattle.layout.proofs.change_of.Tie as tie
+
+array-read-signed : tie.Need-array-read-signed
+array-read-signed c = search needs
+
+signed-requires : tie.Need-signed-requires
+signed-requires c κs = search needs
+
+array-read-signed-2 : tie.Need-array-read-signed-2
+array-read-signed-2 c = search needs
+
+signed-requires-2 : tie.Need-signed-requires-2
+signed-requires-2 c κs = search needs
+
+array-read-t13 : tie.Need-array-read-t13
+array-read-t13 c = search needs
+
+cast-t14 : tie.Need-cast-t14
+cast-t14 c = search needs
+
+returns : tie.Need-returns
+returns c =
+    let ns = c .before .before .args .t1 in
+    let e : length ns ≡ 15 = search needs in
+    let first = c .before .signed in
+    let second = c .signed2 in
+    rw (toZ-ofZ (record { sfits = first .ok }), first .ensures, toZ-ofZ (record { sfits = second .ok }), second .ensures)
+    (change-in ns e)
+
+pub change-of-spec : {M : Type 1} → statement M
+change-of-spec =
+    tie.close
+    (tie.spec
+    array-read-signed
+    signed-requires
+    array-read-signed-2
+    signed-requires-2
+    array-read-t13
+    cast-t14
+    returns)

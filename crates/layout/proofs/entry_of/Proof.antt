@@ -1,0 +1,45 @@
+-- `layout::entry_of` meets its contract: by the kind, and each kind by its own function. Assumes nothing.
+use borrow.Author.Needs.{needs}
+use mathlib.Core.Path.{sym, ap, _∙_}
+use Prim.Native.Nat.{ℕ}
+use Rattle.layout.specs.Table.{entryWith}
+use Rattle.layout.proofs.Forms.{last-row}
+use Rattle.layout.proofs.entry_of.Statement.{statement}
+use Rattle.layout.proofs.entry_of.Tie as tie
+
+weighing-of-requires : tie.Need-weighing-of-requires
+weighing-of-requires c κs = search needs
+
+sheet-of-requires : tie.Need-sheet-of-requires
+sheet-of-requires c κs = search needs
+
+change-of-requires : tie.Need-change-of-requires
+change-of-requires c κs = search needs
+
+returns : tie.Need-returns
+returns c =
+    let b = c .before in
+    c .weighing-of .ensures ∙ ap (λ (k : ℕ). entryWith k (b .before .args .n)) (sym (b .match .keys1))
+
+returns-2 : tie.Need-returns-2
+returns-2 c =
+    let b = c .before in
+    c .sheet-of .ensures ∙ ap (λ (k : ℕ). entryWith k (b .before .args .n)) (sym (b .match .keys2))
+
+returns-3 : tie.Need-returns-3
+returns-3 c =
+    let b = c .before in
+    let m = b .match .rest in
+    let third = last-row (b .before .args .kind) (b .before .pre) (m .0 .1) (m .1) in
+    c .change-of .ensures ∙ ap (λ (k : ℕ). entryWith k (b .before .args .n)) (sym third)
+
+pub entry-of-spec : {M : Type 1} → statement M
+entry-of-spec =
+    tie.close
+    (tie.spec
+    weighing-of-requires
+    sheet-of-requires
+    change-of-requires
+    returns
+    returns-2
+    returns-3)

@@ -1,0 +1,187 @@
+// How an entry lies in the file: the widths of its fields, a row for each kind, and its values as the words they hold.
+use paper::Change;
+use paper::Entry;
+use paper::Sheet;
+use paper::Station;
+use paper::Weighing;
+use words::signed;
+use words::word_of;
+ghost use mathlib.Core.Path.{_≡_};
+ghost use mathlib.Core.Bool.{false};
+ghost use Rattle.paper.specs.declared.Entry.the-variants as entry;
+ghost use Rattle.paper.specs.File.{signedWord, fieldValue, layoutOf};
+ghost use Rattle.paper.specs.Refusals.{isNone};
+ghost use Rattle.layout.specs.Table.{padded, rowOf, wordsOf, fieldsIn, entryWith};
+
+// The most fields that a kind has.
+pub const FIELDS: usize = 15;
+
+// A row of the table: how many fields, how many bytes they take, and the width of each. No field: no such kind.
+pub struct Layout {
+    pub count: usize,
+    pub length: usize,
+    pub widths: [usize; FIELDS],
+}
+
+// An entry's kind, and the words of its fields.
+pub struct Fields {
+    pub kind: u8,
+    pub words: [u64; FIELDS],
+}
+
+// The table.
+pub fn layout_of(kind: u8) -> Layout
+    ensures { λ r. ⌜ r ≡ rowOf (layoutOf kind) ⌝ }
+{
+    match kind {
+        // m; p, q, a, b, n
+        1 => Layout {
+            count: 6,
+            length: 21,
+            widths: [1, 4, 4, 4, 4, 4, 0, 0, 0, 0, 0, 0, 0, 0, 0],
+        },
+        // FWD, AFT, DRY, WET, NLP; front arm, least, greatest, step; rear and water arm, greatest, step
+        2 => Layout {
+            count: 15,
+            length: 60,
+            widths: [4, 4, 4, 4, 4, 4, 4, 4, 4, 4, 4, 4, 4, 4, 4],
+        },
+        // c, arm; flag
+        3 => Layout {
+            count: 3,
+            length: 9,
+            widths: [4, 4, 1, 0, 0, 0, 0, 0, 0, 0, 0, 0, 0, 0, 0],
+        },
+        _ => Layout {
+            count: 0,
+            length: 0,
+            widths: [0, 0, 0, 0, 0, 0, 0, 0, 0, 0, 0, 0, 0, 0, 0],
+        },
+    }
+}
+
+fn weighing_words(w: Weighing) -> [u64; FIELDS]
+    ensures { λ r. ⌜ r ≡ padded (wordsOf (entry.Weighing w)) ⌝ }
+{
+    let a = word_of(w.a);
+    [w.m, w.p, w.q, a, w.b, w.n, 0, 0, 0, 0, 0, 0, 0, 0, 0]
+}
+
+fn sheet_words(s: Sheet) -> [u64; FIELDS]
+    ensures { λ r. ⌜ r ≡ padded (wordsOf (entry.Sheet s)) ⌝ }
+{
+    let front = s.front;
+    let rear = s.rear;
+    let water = s.water;
+    let fwd = word_of(s.fwd);
+    let aft = word_of(s.aft);
+    let front_arm = word_of(front.arm);
+    let rear_arm = word_of(rear.arm);
+    let water_arm = word_of(water.arm);
+    [
+        fwd,
+        aft,
+        s.dry,
+        s.wet,
+        s.nlp,
+        front_arm,
+        s.least,
+        front.most,
+        front.step,
+        rear_arm,
+        rear.most,
+        rear.step,
+        water_arm,
+        water.most,
+        water.step,
+    ]
+}
+
+fn change_words(x: Change) -> [u64; FIELDS]
+    ensures { λ r. ⌜ r ≡ padded (wordsOf (entry.Change x)) ⌝ }
+{
+    let c = word_of(x.c);
+    let arm = word_of(x.arm);
+    [c, arm, x.flag, 0, 0, 0, 0, 0, 0, 0, 0, 0, 0, 0, 0]
+}
+
+// An entry as the file has it.
+pub fn fields_of(e: Entry) -> Fields
+    ensures { λ r. ⌜ r ≡ fieldsIn e ⌝ }
+{
+    match e {
+        Entry::Weighing(w) => Fields {
+            kind: 1,
+            words: weighing_words(w),
+        },
+        Entry::Sheet(s) => Fields {
+            kind: 2,
+            words: sheet_words(s),
+        },
+        Entry::Change(x) => Fields {
+            kind: 3,
+            words: change_words(x),
+        },
+    }
+}
+
+fn weighing_of(n: [u32; FIELDS]) -> Weighing
+    ensures { λ r. ⌜ entry.Weighing r ≡ entryWith 1 n ⌝ }
+{
+    Weighing {
+        m: n[0] as u64,
+        p: n[1] as u64,
+        q: n[2] as u64,
+        a: signed(n[3]),
+        b: n[4] as u64,
+        n: n[5] as u64,
+    }
+}
+
+fn station_of(arm: u32, most: u32, step: u32) -> Station
+    ensures { λ r. ⌜ r ≡ record { arm = fieldValue signedWord arm; most = most; step = step } ⌝ }
+{
+    Station {
+        arm: signed(arm),
+        most: most as u64,
+        step: step as u64,
+    }
+}
+
+fn sheet_of(n: [u32; FIELDS]) -> Sheet
+    ensures { λ r. ⌜ entry.Sheet r ≡ entryWith 2 n ⌝ }
+{
+    Sheet {
+        fwd: signed(n[0]),
+        aft: signed(n[1]),
+        dry: n[2] as u64,
+        wet: n[3] as u64,
+        nlp: n[4] as u64,
+        front: station_of(n[5], n[7], n[8]),
+        least: n[6] as u64,
+        rear: station_of(n[9], n[10], n[11]),
+        water: station_of(n[12], n[13], n[14]),
+    }
+}
+
+fn change_of(n: [u32; FIELDS]) -> Change
+    ensures { λ r. ⌜ entry.Change r ≡ entryWith 3 n ⌝ }
+{
+    Change {
+        c: signed(n[0]),
+        arm: signed(n[1]),
+        flag: n[2] as u64,
+    }
+}
+
+// The entry of a kind of the table with these words.
+pub fn entry_of(kind: u8, n: [u32; FIELDS]) -> Entry
+    requires { ⌜ isNone (layoutOf kind) ≡ false ⌝ }
+    ensures { λ r. ⌜ r ≡ entryWith kind n ⌝ }
+{
+    match kind {
+        1 => Entry::Weighing(weighing_of(n)),
+        2 => Entry::Sheet(sheet_of(n)),
+        _ => Entry::Change(change_of(n)),
+    }
+}

@@ -1,0 +1,3 @@
+-- What the proofs share: one byte more of a number, and two's complement.
+pub mod Turns
+pub mod Signs

@@ -1,0 +1,31 @@
+-- Two's complement in four bytes, either way: by the side of 0 that a number is on. Assumes nothing.
+use mathlib.Core.Path.{_≡_, ap}
+use Prim.Native.Nat.{ℕ, _*_, _-_, _≤_, _<_}
+use native.Mathlib.Omega.{arith}
+use lib.IntN.{ℤ, pos, negsuc, _-ℤ_}
+use borrow.Author.Tests.{le-leb, lt-leb}
+use Rattle.laws.specs.Z.{zs, is-nat, is-sub}
+use Rattle.paper.specs.File.{complement, signedWord, fieldValue}
+
+-- ---- the word of a number
+
+pub from-nought : (x : ℤ) (n : ℕ) → pos n ≡ x → n ≡ complement 4 x
+from-nought x n e = ap (complement 4) e
+
+pub below-nought : (x : ℤ) (n : ℕ) → x ≡ negsuc n → n < 4294967296 → 4294967295 - n ≡ complement 4 x
+below-nought x n e h = rw e (omega arith)
+
+pub far-below : (x : ℤ) (n : ℕ) → x ≡ negsuc n → 4294967296 ≤ n → 0 ≡ complement 4 x
+far-below x n e h = rw e (omega arith)
+
+-- ---- the number of a word
+
+pub low-word : (n : ℕ) → n < 2147483648 → pos n ≡ fieldValue signedWord n
+unfolding fieldValue
+low-word n h = simp (lt-leb 4294967296 (2 * n) (omega arith))
+
+pub high-word : (n : ℕ) → 2147483648 ≤ n → n < 4294967296 → pos n -ℤ pos 4294967296 ≡ fieldValue signedWord n
+unfolding fieldValue
+high-word n h k =
+    simp (le-leb 4294967296 (2 * n) (omega arith))
+    (omega (arith, zs, is-sub (is-nat n) (is-nat 4294967296)))

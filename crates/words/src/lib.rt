@@ -1,0 +1,61 @@
+// Numbers as the file spells them: bytes with the highest first, and two's complement in four of them.
+ghost use mathlib.Core.Path.{_≡_};
+ghost use Prim.Native.Nat.{_+_, _≤_};
+ghost use lib.ListN.{length, take, drop};
+ghost use Rattle.laws.specs.Written.{written};
+ghost use Rattle.paper.specs.File.{bytesOf, numberOf, complement, signedWord, fieldValue};
+
+// The number that `width` bytes from `at` on spell.
+pub fn number_at(s: &[u8], at: usize, width: usize) -> u32
+    requires { ⌜ (width ≤ 4) × (at + width ≤ length (now s)) ⌝ }
+    ensures { λ r. ⌜ r ≡ numberOf (take width (drop at (now (s .entry)))) ⌝ }
+{
+    let mut n: u32 = 0;
+    let mut i = 0;
+    while i < width {
+        n = n * 256 + s[at + i] as u32;
+        i += 1;
+    }
+    n
+}
+
+// The last `width` bytes of a number, from `at` on.
+pub fn put_number(out: &mut [u8], at: usize, width: usize, n: u64)
+    requires { ⌜ at + width ≤ length (now out) ⌝ }
+    ensures { λ _. ⌜ now (out .exit) ≡ written (now (out .entry)) at (bytesOf width n) ⌝ }
+{
+    let mut left = width;
+    let mut rest = n;
+    while 0 < left {
+        left -= 1;
+        out[at + left] = (rest % 256) as u8;
+        rest = rest / 256;
+    }
+}
+
+// A signed number as the word that stands for it.
+pub fn word_of(x: i64) -> u64
+    ensures { λ r. ⌜ r ≡ complement 4 x ⌝ }
+{
+    if 0 <= x {
+        return laws::size(x);
+    }
+    let below = laws::under(x);
+    if below < 4_294_967_296 {
+        4_294_967_295 - below
+    } else {
+        0
+    }
+}
+
+// The signed number that a word stands for.
+pub fn signed(n: u32) -> i64
+    ensures { λ r. ⌜ r ≡ fieldValue signedWord n ⌝ }
+{
+    let value = n as i64;
+    if n < 2_147_483_648 {
+        value
+    } else {
+        value - 4_294_967_296
+    }
+}
