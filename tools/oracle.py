@@ -1,6 +1,7 @@
 """An independent reckoning of paper 01 in whole numbers, to hold the programs against.
 
     python3 tools/oracle.py cases > crates/cases/stdout
+    python3 tools/oracle.py files > crates/files/stdout
 
 A journal is the tuple of the entries accepted so far. A call takes a journal and answers its number, 0 where it is
 accepted, and the journal afterwards.
@@ -18,7 +19,7 @@ MOST_ENTRIES = 64
 
 # Numbers of refusal.
 READING, ARM, NONLIFTING, SHEET, ROWS, CHANGE = 1, 2, 3, 4, 5, 6
-UNWEIGHED, FULL, BARE = 7, 9, 10
+UNWEIGHED, FULL, BARE, SHORT, FILE = 7, 9, 10, 11, 12
 
 
 # The entries, their fields in the order of the file.
@@ -208,10 +209,81 @@ def centre_of_gravity(journal):
     return 0, total, moment, (2 * moment + total) // (2 * total)
 
 
+# The file.
+
+VERSION = 1
+KINDS = {1: Weighing, 2: Sheet, 3: Change}
+KIND_OF = {kind: number for number, kind in KINDS.items()}
+IN_ONE_BYTE = {"m", "flag"}
+SIGNED = {"a", "fwd", "aft", "front_arm", "rear_arm", "water_arm", "c", "arm"}
+
+
+def width(field):
+    return 1 if field in IN_ONE_BYTE else 4
+
+
+def entry_bytes(entry):
+    """The kind, and each field at its width."""
+    spelled = [value.to_bytes(width(field), "big", signed=field in SIGNED) for field, value in entry._asdict().items()]
+    return bytes([KIND_OF[type(entry)]]) + b"".join(spelled)
+
+
+def entry_from(kind, spelled):
+    """The entry of a kind by the bytes of its fields, all of them."""
+    fields = {}
+    for field in kind._fields:
+        own, spelled = spelled[: width(field)], spelled[width(field) :]
+        fields[field] = int.from_bytes(own, "big", signed=field in SIGNED)
+    return kind(**fields)
+
+
+def file_of(journal):
+    rest = bytes([VERSION, len(journal)]) + b"".join(map(entry_bytes, journal))
+    return len(rest).to_bytes(4, "big") + rest
+
+
+def entries_of(data):
+    """The entries of bytes that are laid out as a file, or None: the whole is taken apart before it is counted."""
+    if len(data) < 6 or int.from_bytes(data[:4], "big") != len(data[4:]) or data[4] != VERSION:
+        return None
+    entries, rest = [], data[6:]
+    while rest:
+        kind = KINDS.get(rest[0])
+        end = 1 + sum(map(width, kind._fields)) if kind else 0
+        if not kind or len(rest) < end:
+            return None
+        entries.append(entry_from(kind, rest[1:end]))
+        rest = rest[end:]
+    return entries if len(entries) == data[5] else None
+
+
+def write(journal, buffer):
+    """Number, length and the buffer afterwards."""
+    data = file_of(journal)
+    if len(buffer) < len(data):
+        return SHORT, 0, buffer
+    return 0, len(data), data + buffer[len(data) :]
+
+
+def read(journal, data):
+    """Reading back: the entries in turn from an empty journal."""
+    entries = entries_of(data)
+    if entries is None:
+        return FILE, journal
+    found = ()
+    for entry in entries:
+        number, found = add(found, entry)
+        if number:
+            return FILE, journal
+    return 0, found
+
+
 if __name__ == "__main__":
-    if sys.argv[1:] != ["cases"]:
-        sys.exit("usage: python3 tools/oracle.py cases")
     sys.dont_write_bytecode = True
     import cases
+    import files
 
-    cases.report()
+    reports = {"cases": cases.report, "files": files.report}
+    if len(sys.argv) != 2 or sys.argv[1] not in reports:
+        sys.exit(f"usage: python3 tools/oracle.py {'|'.join(reports)}")
+    reports[sys.argv[1]]()

@@ -8,15 +8,15 @@ use record::Record;
 
 // A change where the non-lifting weight is a third of the total.
 fn tried(label: &[u8], x: Change) {
-    report::text(b"change, ");
+    lines::text(b"change, ");
     report::answered(label, weighed(100_000).change(x));
 }
 
 // A change where the non-lifting weight is n.
 fn with_nonlifting(label: &[u8], n: u64, x: Change) {
-    report::text(b"change, n ");
-    report::unsigned(n);
-    report::text(b", ");
+    lines::text(b"change, n ");
+    lines::unsigned(n);
+    lines::text(b", ");
     report::answered(label, weighed(n).change(x));
 }
 
@@ -24,9 +24,9 @@ fn with_nonlifting(label: &[u8], n: u64, x: Change) {
 fn with_total(label: &[u8], total: u64, x: Change) {
     let k = Record::fresh().weigh(readings(1, total, 0));
     let log = k.log;
-    report::text(b"change, G ");
-    report::unsigned(total);
-    report::text(b", ");
+    lines::text(b"change, G ");
+    lines::unsigned(total);
+    lines::text(b", ");
     report::answered(label, log.change(x));
 }
 

@@ -25,17 +25,17 @@ fn sheet(fwd: i64, dry: u64, step: u64) -> Sheet {
 }
 
 fn weighed(label: &[u8], r: Record, w: Weighing) {
-    report::text(b"order of a weighing, ");
+    lines::text(b"order of a weighing, ");
     report::answered(label, r.weigh(w));
 }
 
 fn installed(label: &[u8], r: Record, s: Sheet) {
-    report::text(b"order of a sheet, ");
+    lines::text(b"order of a sheet, ");
     report::answered(label, r.install(s));
 }
 
 fn changed(label: &[u8], r: Record, x: Change) {
-    report::text(b"order of a change, ");
+    lines::text(b"order of a change, ");
     report::answered(label, r.change(x));
 }
 

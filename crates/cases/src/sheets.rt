@@ -11,7 +11,7 @@ use crate::sample::weights;
 use paper::Sheet;
 
 fn tried(label: &[u8], s: Sheet) {
-    report::text(b"sheet, ");
+    lines::text(b"sheet, ");
     report::answered(label, weighed(100_000).install(s));
 }
 

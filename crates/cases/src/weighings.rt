@@ -7,9 +7,9 @@ use paper::Weighing;
 use record::Record;
 
 fn tried(label: &[u8], w: Weighing) {
-    report::text(b"weighing by method ");
-    report::unsigned(w.m);
-    report::text(b", ");
+    lines::text(b"weighing by method ");
+    lines::unsigned(w.m);
+    lines::text(b", ");
     report::answered(label, Record::fresh().weigh(w));
 }
 

@@ -1,22 +1,18 @@
 -- What is found at a place: the byte there is the kind, and its row says how much must follow. Assumes nothing.
-use mathlib.Core.Path.{_≡_, refl, sym, ap, _∙_}
-use mathlib.Core.Bool.{cond}
+use mathlib.Core.Path.{_≡_, refl, ap, _∙_}
 use mathlib.Core.List.{List, [], _∷_, _++_}
-use mathlib.Core.Option.{Option, none, some, Option·map, bind}
-use Prim.Native.Nat.{ℕ, suc, _+_, _-_, _≤_, _<_}
+use mathlib.Core.Option.{none, some, bind}
+use Prim.Native.Nat.{ℕ, _+_, _-_, _≤_, _<_}
 use native.Mathlib.Numerals.{add-one}
 use native.Mathlib.Omega.{arith}
-use lib.Dec.{leb}
-use lib.IntN.{ℤ}
 use lib.ListN.{length, getD, take, drop, replicate, length-drop, drop-of-length-le}
 use lib.Seq.{drop-cons}
 use borrow.Author.Tests.{le-leb, lt-leb}
 use Rattle.paper.specs.declared.Entry.{Entry}
-use Rattle.paper.specs.File.{Field, fieldValue, layoutOf, entryOf, takeFields, takeEntry, theFields}
+use Rattle.paper.specs.File.{Field, fieldValue, layoutOf, takeEntry}
 use Rattle.format.specs.Fields.{widths, total, numbersFrom, valuesBy, take-fields, numbers-length, widths-length}
 use Rattle.layout.specs.declared.Layout.{Layout}
 use Rattle.layout.specs.Table.{padded, entryWith}
-use Rattle.entries.specs.declared.Walk.{Walk}
 use Rattle.entries.specs.declared.Walk.the-variants.{Got, Nothing}
 use Rattle.entries.specs.Walking.{walkAt}
 use Rattle.entries.proofs.Rows.{Known}

@@ -1,26 +1,26 @@
 -- Entries read in turn: those read so far and those still to come are the file's, and each step takes one from the latter to
 -- the former, or shows that there is no file. Assumes nothing.
 use mathlib.Core.Path.{_≡_, refl, sym, ap, _∙_}
-use mathlib.Core.Bool.{Bool, true, false, cond, _&&_}
+use mathlib.Core.Bool.{true, false}
 use mathlib.Core.List.{List, [], _∷_, _++_, append-assoc, append-nil}
 use mathlib.Core.Option.{Option, none, some, Option·map, bind}
 use Prim.Native.Nat.{ℕ, suc, _+_, _-_, _≤_, _<_}
 use native.Mathlib.Omega.{arith}
 use lib.Dec.{eqb}
-use lib.ListN.{length, getD, take, drop, length-append, length-drop, take-append-drop, drop-of-length-le}
+use lib.ListN.{length, getD, take, drop, length-append, take-append-drop, drop-of-length-le}
 use lib.Pow.{areBytes}
 use lib.Seq.{drop-at, drop-cons}
-use borrow.Author.Tests.{ne-eqb, eqb-true}
+use borrow.Author.Tests.{eqb-true}
 use Rattle.laws.specs.Tests.{left, right, isnt}
 use Rattle.paper.specs.declared.Entry.{Entry}
-use Rattle.paper.specs.File.{takeEntry, takeEntries, entryBytes, laidOut}
+use Rattle.paper.specs.File.{takeEntry, takeEntries, entryBytes}
 use Rattle.paper.specs.Refusals.{entryNumber, acceptedAfter, accepted, onlyAccepted, fileOf, _when_, isNone, firstNumber, readingNumber}
 use Rattle.paper.specs.Journal.{read, callNumber, acceptedCall, entriesOr}
 use Rattle.format.specs.Numbers.{bytes-drop}
 use Rattle.format.specs.Entries.{entry-written}
 use Rattle.record.specs.declared.Record.{Record}
 use Rattle.record.specs.declared.Replayed.{Replayed}
-use Rattle.record.specs.Held.{recordOf, heldBy, keptOr, answered, ReplayedAs}
+use Rattle.record.specs.Held.{heldBy, keptOr, answered, ReplayedAs}
 use Rattle.record.proofs.Turns.{accepted-append, accepted-before, accepted-more}
 use Rattle.entries.specs.declared.Walk.{Walk}
 use Rattle.entries.specs.declared.Walk.the-variants.{Got, Nothing}

@@ -23,7 +23,7 @@ use Rattle.record.specs.declared.Record.{Record}
 use Rattle.record.specs.declared.Kept.{Kept}
 use Rattle.record.specs.Held.{recordOf, heldBy, answered}
 use Rattle.record.proofs.Lists.{held-record}
-use Rattle.record.proofs.Replays.{held-accepted, held-most}
+use Rattle.record.proofs.Replays.{held-accepted}
 use Rattle.record.proofs.Turns.{at-most-64}
 use Rattle.record.proofs.Calls.{kept}
 use Rattle.record.proofs.Following.{Made, made-fresh, made-answered}

@@ -1,14 +1,12 @@
 -- What is written in all: the header, the entries behind it, and how long they are. Assumes nothing.
-use mathlib.Core.Path.{_≡_, refl, sym, ap, _∙_}
-use mathlib.Core.Bool.{true, false}
-use mathlib.Core.List.{List, [], _∷_, _++_, map, append-assoc}
+use mathlib.Core.Path.{_≡_, sym, ap, _∙_}
+use mathlib.Core.List.{List, [], _∷_, _++_, append-assoc}
 use Prim.Native.Nat.{ℕ, _+_, _-_, _≤_, _<_}
 use native.Mathlib.Omega.{arith}
-use lib.ListN.{length, set, drop, length-append}
+use lib.ListN.{length, set, length-append}
 use borrow.Author.Tests.{lt-ltb, le-ltb}
 use Rattle.laws.specs.Written.{written, length-written, written-one, written-more, written-first}
 use Rattle.paper.specs.declared.Entry.{Entry}
-use Rattle.paper.specs.declared.Written.{Written}
 use Rattle.paper.specs.File.{bytesOf, version, bodyBytes, fileBytes}
 use Rattle.paper.specs.Refusals.{firstNumber, writingNumber}
 use Rattle.paper.specs.Answers.{over, writtenBy, writtenAnswer}

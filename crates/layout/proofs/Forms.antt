@@ -2,7 +2,7 @@
 -- Assumes nothing.
 use mathlib.Core.Path.{_≡_, refl, sym, ap}
 use mathlib.Core.Bool.{Bool, true, false, cond}
-use mathlib.Core.List.{List, [], _∷_}
+use mathlib.Core.List.{List}
 use mathlib.Core.Option.{none}
 use Prim.Native.Nat.{ℕ}
 use lib.Dec.{eqb}
@@ -14,7 +14,6 @@ use Rattle.paper.specs.declared.Station.{Station}
 use Rattle.paper.specs.declared.Weighing.{Weighing}
 use Rattle.paper.specs.declared.Sheet.{Sheet}
 use Rattle.paper.specs.declared.Change.{Change}
-use Rattle.paper.specs.declared.Entry.{Entry}
 use Rattle.paper.specs.declared.Entry.the-variants as entry
 use Rattle.paper.specs.File.{signedWord, fieldValue, layoutOf, entryOf}
 use Rattle.paper.specs.Refusals.{isNone}

@@ -1,16 +1,11 @@
 -- `entries::next_entry` meets its contract: each return by the row of the kind that stands at the place. Assumes nothing.
-use mathlib.Core.Path.{_≡_, refl, ap, _∙_, sym}
-use mathlib.Core.Bool.{false}
-use mathlib.Core.List.{List}
-use mathlib.Core.Option.{some}
-use Prim.Native.Nat.{_+_, _≤_}
+use mathlib.Core.Path.{ap, _∙_, sym}
 use native.Mathlib.Omega.{arith}
 use borrow.Author.Needs.{needs}
-use lib.ListN.{length, getD, take}
-use Rattle.paper.specs.File.{Field, layoutOf}
+use lib.ListN.{getD}
+use Rattle.paper.specs.File.{layoutOf}
 use Rattle.paper.specs.Refusals.{isNone}
-use Rattle.format.specs.Fields.{total, widths}
-use Rattle.layout.specs.Table.{rowOf}
+use Rattle.format.specs.Fields.{total}
 use Rattle.entries.proofs.Rows.{Known, known, no-kind, listed}
 use Rattle.entries.proofs.Places.{at-end, no-row-here, cut-off, got}
 use Rattle.entries.proofs.next_entry.Statement.{statement}

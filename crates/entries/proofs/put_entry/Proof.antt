@@ -1,9 +1,9 @@
 -- `entries::put_entry` meets its contract: the kind, and behind it the fields of its row. Assumes nothing.
 use mathlib.Core.Path.{_≡_, ap, _∙_}
-use Prim.Native.Nat.{_+_, _≤_}
+use Prim.Native.Nat.{_+_}
 use native.Mathlib.Omega.{arith}
 use borrow.Author.Needs.{needs}
-use lib.ListN.{length, take, length-set}
+use lib.ListN.{length, length-set}
 use Rattle.laws.specs.Written.{written, length-written, written-behind}
 use Rattle.paper.specs.File.{entryBytes}
 use Rattle.format.specs.Fields.{total}

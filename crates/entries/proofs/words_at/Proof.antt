@@ -4,7 +4,7 @@ use mathlib.Core.Path.{_≡_, refl, _∙_, sym, ap}
 use Prim.Native.Nat.{ℕ, _+_, _-_, _≤_}
 use native.Mathlib.Omega.{arith}
 use borrow.Author.Needs.{needs}
-use lib.ListN.{length, getD, take, set, length-map}
+use lib.ListN.{length, getD, take, length-map}
 use Rattle.format.specs.Fields.{total, numbersFrom}
 use Rattle.entries.proofs.Turns.{room, total-taken, readTo, read-more}
 use Rattle.entries.proofs.words_at.Statement.{statement}

@@ -1,12 +1,11 @@
 -- `words::signed` meets its contract: a word from the middle on stands for a number below 0. Assumes nothing.
 use borrow.Author.Needs.{needs}
-use mathlib.Core.Path.{_≡_, _∙_, ap}
+use mathlib.Core.Path.{_∙_, ap}
 use native.Mathlib.Omega.{arith}
 use Prim.Native.Nat.{_<_, _^_}
 use lib.IntN.{ℤ, pos, _-ℤ_}
 use mir.Facts.{toZ-ofZ}
 use mir.Syntax.{w64}
-use mir.Val.{toZ}
 use mir.ValLaws.{toZ-pos}
 use Rattle.laws.specs.Z.{zs, is-nat, is-sub}
 use Rattle.words.proofs.signed.Statement.{statement}

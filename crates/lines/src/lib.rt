@@ -1,0 +1,32 @@
+// What the programs that try the library print on standard output.
+use libc::STDOUT_FILENO;
+use record::Record;
+
+pub fn text(s: &[u8]) {
+    io::write_all(STDOUT_FILENO, s);
+}
+
+pub fn unsigned(n: u64) {
+    io::print_decimal(STDOUT_FILENO, n);
+}
+
+pub fn signed(x: i64) {
+    if x < 0 {
+        text(b"-");
+        unsigned(laws::under(x) + 1);
+    } else {
+        unsigned(laws::size(x));
+    }
+}
+
+// Number, total, moment and centre.
+pub fn centre_of_gravity(r: Record) {
+    let c = r.centre_of_gravity();
+    unsigned(c.number);
+    text(b" ");
+    unsigned(c.total);
+    text(b" ");
+    signed(c.moment);
+    text(b" ");
+    signed(c.centre);
+}

@@ -1,0 +1,241 @@
+"""What the program `files` prints, by the oracle's reckoning. Its lines are described in the program's src/."""
+
+from oracle import Change, Sheet, Weighing, add, centre_of_gravity, entry_bytes, file_of, read, width, write
+
+FRESH = ()
+MOST = 2000000
+WORD = 2**32 - 1
+ARMS = (-MOST - 1, -MOST, 0, MOST, MOST + 1, -(2**31))
+
+# The entries of the program's letters.
+W = Weighing(m=2, p=310000, q=280100, a=-9500, b=550000, n=150000)
+V = Weighing(m=3, p=355, q=90, a=50, b=13350, n=0)
+LIMITS, FRONT, WATER = (25000, 42500, 380000, 450000, 240000), (-47500, 55000, 110000, 1000), (30000, 100000, 50000)
+S = Sheet(*LIMITS, *FRONT, 12000, 90000, 100000, *WATER)
+C = Change(c=-4500, arm=-100000, flag=1)
+D = Change(c=1, arm=0, flag=0)
+LETTERS = {
+    **{"w": W, "v": V, "P": W._replace(p=0), "A": W._replace(b=0), "N": W._replace(n=310001)},
+    **{"s": S, "r": S._replace(water_step=391), "S": S._replace(water_step=390)},
+    **{"F": S._replace(fwd=42500), "T": S._replace(water_arm=2000001)},
+    **{"c": C, "q": C._replace(c=-150000), "Q": C._replace(c=-150001)},
+    **{"d": D, "l": D._replace(c=-160000), "L": D._replace(c=-160001), "g": D._replace(c=1690000)},
+    **{"G": D._replace(c=1690001), "C": D._replace(c=0), "B": D._replace(arm=-2000001)},
+}
+KIND_ALONE = {**{str(kind): bytes([kind]) for kind in range(5)}, "/": b"\xff"}
+
+# G and H, and a record that sheets fill.
+G_SHEET = Sheet(*LIMITS, *FRONT, 0, 0, 1, *WATER)
+G = (Weighing(1, 288000, 0, 63334, 500000, 140000), G_SHEET)
+H_CHANGE = Change(4500, -100000, 1)
+SHEETS = 64 * (G_SHEET,)
+
+
+def headed(body, length, count):
+    """The bytes behind a header that says so many bytes, itself among them, and so many entries."""
+    return ((length - 4) % 2**32).to_bytes(4, "big") + bytes([1, count % 256]) + body
+
+
+def composed(letters):
+    body = b"".join(KIND_ALONE.get(letter) or entry_bytes(LETTERS[letter]) for letter in letters)
+    return headed(body, 6 + len(body), len(letters))
+
+
+# Lines.
+
+
+def numbers(journal):
+    return " ".join(map(str, centre_of_gravity(journal)))
+
+
+def answer(data):
+    """The number, or the centre of gravity. That the file afterwards is as it should be has no word in a line."""
+    number, journal = read(FRESH, data)
+    assert file_of(journal) == (file_of(FRESH) if number else data)
+    return str(number) if number else numbers(journal)
+
+
+def byte_sum(data):
+    total = 0
+    for byte in data:
+        total = total % 1000003 * 257 + byte
+    return total
+
+
+def kept(label, call):
+    """What a call answered; the journal is handed on."""
+    number, journal = call
+    data = file_of(journal)
+    print(f"[{label}]: {number} {numbers(journal)} 0 {len(data)} {byte_sum(data)}")
+    return journal
+
+
+# The worked cases.
+
+
+def worked():
+    assert file_of(FRESH).hex(" ") == "00 00 00 02 01 00"
+    assert centre_of_gravity(G) == (0, 288000, 288000 * 63334, 63334)
+    assert (len(file_of(G)), len(file_of(SHEETS))) == (89, 3910)
+    cases = {"K": FRESH, "G": G, "H": (*G, H_CHANGE)}
+    for label, journal in cases.items():
+        shown(label, journal)
+    for label, journal in cases.items():
+        shown(f"{label}, read back", read(FRESH, file_of(journal))[1])
+
+
+def shown(label, journal):
+    data = file_of(journal)
+    print(f"{label}: {numbers(journal)} 0 {len(data)} {data.hex()}")
+
+
+# Short files with a byte or a number altered.
+
+
+def every_byte(letters, places):
+    data = composed(letters)
+    print(f"[{letters}]")
+    for at in places:
+        x = data[at]
+        sums = [(x + more) % 256 for more in (1, 128, 255)]
+        others = sums + [y for y in (0, 1, 127, 128, 255) if y not in (x, *sums)]
+        line = (f", {y}: {answer(data[:at] + bytes([y]) + data[at + 1 :])}" for y in others)
+        print(f"byte {at}{''.join(line)}")
+
+
+def number_altered(at, number, data):
+    print(f"number at {at} {number % 2**32}: {answer(data)}")
+
+
+def place_of(entries, entry, field):
+    """Where a field of an entry is in the file of the entries."""
+    fields = entry._fields[: entry._fields.index(field)]
+    return len(file_of(entries[: entries.index(entry)])) + 1 + sum(map(width, fields))
+
+
+def every_number():
+    entries = (W, S, C)
+    for length in (0, 94, 95, 96, 351, WORD):
+        number_altered(0, length, headed(file_of(entries)[6:], length + 4, 3))
+    for entry, field, *others in (
+        (W, "p", 0, 280099, 280100, MOST, MOST + 1, WORD),
+        (W, "q", 0, 150000, 310000, 310001, MOST + 1, WORD),
+        (W, "a", *ARMS),
+        (W, "b", 0, 1, MOST, MOST + 1, 2**31, WORD),
+        (W, "n", 0, 4499, 4500, 310000, 310001, WORD),
+        (S, "fwd", -MOST - 1, -MOST, 42499, 42500, 42501, -(2**31)),
+        (S, "aft", -MOST, 25000, 25001, MOST, MOST + 1, -(2**31)),
+        (S, "dry", 0, 1, 450000, 450001, 2**31, WORD),
+        (S, "wet", 0, 379999, 380000, MOST, MOST + 1, WORD),
+        (S, "nlp", 0, 1, MOST, MOST + 1, 2**31, WORD),
+        (S, "front_arm", *ARMS),
+        (S, "least_front", 0, 1, 110000, 110001, 500000, WORD),
+        (S, "greatest_front", 0, 54999, 55000, 500000, 500001, WORD),
+        (S, "front_step", 0, 1, 2, 500000, 500001, WORD),
+        (S, "rear_arm", *ARMS),
+        (S, "greatest_rear", 0, 1, 500000, 500001, MOST + 1, WORD),
+        (S, "rear_step", 0, 1058, 1059, 500000, 500001, WORD),
+        (S, "water_arm", *ARMS),
+        (S, "capacity", 0, 1, MOST, MOST + 1, 2**31, WORD),
+        (S, "water_step", 0, 390, 391, MOST, MOST + 1, WORD),
+        (C, "c", -MOST - 1, -150001, -150000, 0, 1690000, 1690001),
+        (C, "arm", *ARMS),
+    ):
+        for other in others:
+            changed = entry._replace(**{field: other})
+            data = file_of([changed if x is entry else x for x in entries])
+            number_altered(place_of(entries, entry, field), other, data)
+
+
+def altered():
+    every_byte("", range(6))
+    every_byte("wc", range(38))
+    every_byte("s", range(6, 67))
+    every_byte("wsc", range(7))
+    every_byte("wsc", [28])
+    every_byte("wsc", [89])
+    every_number()
+
+
+# Files cut off, or with a byte 0 more, and with other counts than their own.
+
+
+def cut():
+    for letters, lengths, counts in (
+        ("", range(8), range(3)),
+        ("w", range(27, 30), range(3)),
+        ("s", range(66, 69), range(3)),
+        ("wsc", range(101), range(1, 4)),
+        (64 * "s", [3909], [64]),
+        (64 * "s", [3911], [64]),
+        ("w" + 63 * "d", [658], range(63, 66)),
+        ("w" + 64 * "d", [668], range(64, 67)),
+    ):
+        data = composed(letters) + bytes(2)
+        print(f"[{letters}]")
+        for n in lengths:
+            tries = (f", {count}: {answer(headed(data[6:], n, count)[:n])}" for count in counts)
+            print(f"first {n}: {answer(data[:n])}{''.join(tries)}")
+
+
+# Entries in turn.
+
+
+def turns():
+    for words in (
+        f"{64 * 's'} {65 * 's'}",
+        "w v P A N wP wA wN vP wsP Pw Aw Nw wv vw wvP",
+        "s r S F T ws sw Ss sS rS Sr wS wSs wsS SwS wF wFs wT Tw sT",
+        "c d sc cw dw scw wc vc vd wvc vwc wvd wC wB wCw wBv wcc wscs wcwc",
+        "wl wL wlc wld wlL wll wLw wg wG wgd wgG wGs wq wQ wqQ wqc",
+        "0 1 2 3 4 / 0w 4w /w w0 w1 w2 w3 w4 w/ w0c s4w ws/ wsc0 wsc1 wsc2 wsc3",
+    ):
+        for letters in words.split():
+            print(f"[{letters}]: {answer(composed(letters))}")
+
+
+# Records that files are read into, and that changes are made to then.
+
+
+def step(journal, word):
+    """Reads the file of the letters; - reads no bytes, and + is a change, by its call."""
+    if word == "+":
+        return add(journal, H_CHANGE)
+    return read(journal, b"" if word == "-" else composed(word))
+
+
+def records():
+    for journal, words in (
+        (SHEETS, ("wsS", "", "+", "cw", "vs", "+", "wS", "+")),
+        (SHEETS, ("wsc", "+", "v/", "+")),
+        (G, ("+", "-", "wC", "+", "", "+", "w", "+")),
+    ):
+        for word in words:
+            journal = kept(word, step(journal, word))
+
+
+# Writing into buffers.
+
+
+def written_into(label, journal, *lent):
+    """The first bytes of a longer buffer of AA are lent; 16 behind them are looked at."""
+    for n in lent:
+        number, length, after = write(journal, n * b"\xaa")
+        looked_at = after + 16 * b"\xaa"
+        print(f"{label} into {n}: {number} {length} {byte_sum(after[:length])} {looked_at[length:].count(0xAA)}")
+
+
+def buffers():
+    written_into("K", FRESH, 0, 1, 5, 6, 7)
+    written_into("G", G, 0, 6, 88, 89, 90)
+    written_into("H", (*G, H_CHANGE), 0, 89, 98, 99, 128)
+    written_into("64 sheets", SHEETS, 0, 6, 99, 3909, 3910)
+
+
+def report():
+    worked()
+    altered()
+    cut()
+    turns()
+    records()
+    buffers()
