@@ -1,104 +1,78 @@
 // Changes to a weighed record, whose total is 300000, at each bound.
-use crate::report;
-use crate::sample::part;
-use crate::sample::readings;
-use crate::sample::weighed;
-use paper::Change;
-use record::Record;
-
-// A change where the non-lifting weight is a third of the total.
-fn tried(label: &[u8], x: Change) {
-    lines::text(b"change, ");
-    report::answered(label, weighed(100_000).change(x));
-}
-
-// A change where the non-lifting weight is n.
-fn with_nonlifting(label: &[u8], n: u64, x: Change) {
-    lines::text(b"change, n ");
-    lines::unsigned(n);
-    lines::text(b", ");
-    report::answered(label, weighed(n).change(x));
-}
-
-// A change where the total is another and nothing is non-lifting.
-fn with_total(label: &[u8], total: u64, x: Change) {
-    let k = Record::fresh().weigh(readings(1, total, 0));
-    let log = k.log;
-    lines::text(b"change, G ");
-    lines::unsigned(total);
-    lines::text(b", ");
-    report::answered(label, log.change(x));
-}
-
-fn arms() {
-    tried(b"arm -2000001", part(1_000, -2_000_001, 0));
-    tried(b"arm -2000000", part(1_000, -2_000_000, 0));
-    tried(b"arm 0", part(1_000, 0, 0));
-    tried(b"arm 2000000", part(1_000, 2_000_000, 0));
-    tried(b"arm 2000001", part(1_000, 2_000_001, 0));
-    tried(b"taken out, arm -2000000", part(-1_000, -2_000_000, 0));
-    tried(b"taken out, arm 2000000", part(-1_000, 2_000_000, 0));
-}
+use crate::report::cases;
 
 fn parts() {
-    tried(b"c -2000001", part(-2_000_001, 5_000, 0));
-    tried(b"c -2000000", part(-2_000_000, 5_000, 0));
-    tried(b"c -1", part(-1, 5_000, 0));
-    tried(b"c 0", part(0, 5_000, 0));
-    tried(b"c 1", part(1, 5_000, 0));
-    tried(b"c 2000000", part(2_000_000, 5_000, 0));
-    tried(b"c 2000001", part(2_000_001, 5_000, 0));
-    tried(b"flag 0", part(1_000, 5_000, 0));
-    tried(b"flag 1", part(1_000, 5_000, 1));
-    tried(b"flag 2", part(1_000, 5_000, 2));
+    cases(
+        b"change, ",
+        b"",
+        b"arm -2000001: w,c a-2000001;\
+        arm -2000000: w,c a-2000000;\
+        arm 0: w,c a0;\
+        arm 2000000: w,c a2000000;\
+        arm 2000001: w,c a2000001;\
+        taken out, arm -2000000: w,c c-1000 a-2000000;\
+        taken out, arm 2000000: w,c c-1000 a2000000;\
+        c -2000001: w,c c-2000001;\
+        c -2000000: w,c c-2000000;\
+        c -1: w,c c-1;\
+        c 0: w,c c0;\
+        c 1: w,c c1;\
+        c 2000000: w,c c2000000;\
+        c 2000001: w,c c2000001;\
+        flag 0: w,c f0;\
+        flag 1: w,c f1;\
+        flag 2: w,c f2;",
+    );
 }
 
-// The total afterwards.
-fn totals() {
-    with_nonlifting(b"G after -1", 0, part(-300_001, 5_000, 0));
-    with_nonlifting(b"G after 0", 0, part(-300_000, 5_000, 0));
-    with_nonlifting(b"G after 1", 0, part(-299_999, 5_000, 0));
-    with_nonlifting(b"G after 2000000", 0, part(1_700_000, 5_000, 0));
-    with_nonlifting(b"G after 2000001", 0, part(1_700_001, 5_000, 0));
-    with_total(b"c 1999999", 1, part(1_999_999, 5_000, 0));
-    with_total(b"c 2000000", 1, part(2_000_000, 5_000, 0));
-    with_total(b"c -1999999", 2_000_000, part(-1_999_999, 5_000, 0));
-    with_total(b"c -2000000", 2_000_000, part(-2_000_000, 5_000, 0));
-}
-
-// The non-lifting weight afterwards; it exceeds the total only where the part is none of it.
-fn nonlifting() {
-    with_nonlifting(b"n after -1", 100_000, part(-100_001, 5_000, 1));
-    with_nonlifting(b"n after 0", 100_000, part(-100_000, 5_000, 1));
-    with_nonlifting(b"n after -1", 0, part(-1, 5_000, 1));
-    with_nonlifting(b"n after 1", 0, part(1, 5_000, 1));
-    with_nonlifting(b"n after = G", 100_000, part(-200_000, 5_000, 0));
-    with_nonlifting(b"n after = G + 1", 100_000, part(-200_001, 5_000, 0));
-    with_nonlifting(b"n after = G + 1", 300_000, part(-1, 5_000, 0));
-    with_nonlifting(b"n after = G", 300_000, part(-1, 5_000, 1));
-    with_nonlifting(b"n after = G = 1", 300_000, part(-299_999, 5_000, 1));
-    with_nonlifting(b"n after = G = 0", 300_000, part(-300_000, 5_000, 1));
-    with_nonlifting(b"n after = G = 2000000", 300_000, part(1_700_000, 5_000, 1));
-    with_nonlifting(b"n after = G - 1", 300_000, part(1, 5_000, 0));
+// The total and the non-lifting weight afterwards. That exceeds the total only where the part is none of it.
+fn afterwards() {
+    cases(
+        b"change, ",
+        b"",
+        b"n 0, G after -1: w n0,c c-300001;\
+        n 0, G after 0: w n0,c c-300000;\
+        n 0, G after 1: w n0,c c-299999;\
+        n 0, G after 2000000: w n0,c c1700000;\
+        n 0, G after 2000001: w n0,c c1700001;\
+        G 1, c 1999999: w p1 q0 n0,c c1999999;\
+        G 1, c 2000000: w p1 q0 n0,c c2000000;\
+        G 2000000, c -1999999: w p2000000 q0 n0,c c-1999999;\
+        G 2000000, c -2000000: w p2000000 q0 n0,c c-2000000;\
+        n 100000, n after -1: w n100000,c c-100001 f1;\
+        n 100000, n after 0: w n100000,c c-100000 f1;\
+        n 0, n after -1: w n0,c c-1 f1;\
+        n 0, n after 1: w n0,c c1 f1;\
+        n 100000, n after = G: w n100000,c c-200000;\
+        n 100000, n after = G + 1: w n100000,c c-200001;\
+        n 300000, n after = G + 1: w n300000,c c-1;\
+        n 300000, n after = G: w n300000,c c-1 f1;\
+        n 300000, n after = G = 1: w n300000,c c-299999 f1;\
+        n 300000, n after = G = 0: w n300000,c c-300000 f1;\
+        n 300000, n after = G = 2000000: w n300000,c c1700000 f1;\
+        n 300000, n after = G - 1: w n300000,c c1;",
+    );
 }
 
 // The ends of the types.
 fn extremes() {
-    tried(b"c at least", part(i64::MIN, 5_000, 0));
-    tried(b"c at most", part(i64::MAX, 5_000, 0));
-    tried(b"c at least, flag 1", part(i64::MIN, 5_000, 1));
-    tried(b"c at most, flag 1", part(i64::MAX, 5_000, 1));
-    tried(b"arm at least", part(1_000, i64::MIN, 0));
-    tried(b"arm at most", part(1_000, i64::MAX, 0));
-    tried(b"flag at most", part(1_000, 5_000, u64::MAX));
-    tried(b"c and arm at least", part(i64::MIN, i64::MIN, u64::MAX));
-    tried(b"c and arm at most", part(i64::MAX, i64::MAX, u64::MAX));
+    cases(
+        b"change, ",
+        b"",
+        b"c at least: w,c c<;\
+        c at most: w,c c>;\
+        c at least, flag 1: w,c c< f1;\
+        c at most, flag 1: w,c c> f1;\
+        arm at least: w,c a<;\
+        arm at most: w,c a>;\
+        flag at most: w,c f-1;\
+        c and arm at least: w,c c< a< f-1;\
+        c and arm at most: w,c c> a> f-1;",
+    );
 }
 
 pub fn run() {
-    arms();
     parts();
-    totals();
-    nonlifting();
+    afterwards();
     extremes();
 }

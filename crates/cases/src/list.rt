@@ -1,227 +1,179 @@
 // The list: what counts of it, its 64 places, taking back, and that a refusal leaves it as it was.
+use crate::calls::played;
 use crate::report::answered;
+use crate::report::cases;
 use crate::report::reckoned;
-use crate::sample;
-use crate::sample::Step;
-use crate::sample::part;
-use crate::sample::repeated;
-use paper::Weighing;
-use record::Kept;
 use record::Record;
 
-// Another weighing than the sample's: total 445, moment 1179250, nothing non-lifting.
-fn second() -> Weighing {
-    Weighing {
-        m: 3,
-        p: 355,
-        q: 90,
-        a: 50,
-        b: 13_350,
-        n: 0,
-    }
-}
-
 fn empty() {
-    let fresh = Record::fresh();
-    let sheet = fresh.install(sample::plain());
-    let log = sheet.log;
-    reckoned(b"list, fresh", fresh);
-    answered(b"list, fresh, taken back", fresh.undo());
-    answered(b"list, a sheet alone", sheet);
-    answered(
-        b"list, a change behind the sheet",
-        log.change(part(1, 0, 0)),
+    reckoned(b"list, fresh", Record::fresh());
+    cases(
+        b"list, ",
+        b"",
+        b"fresh, taken back: -;\
+        a sheet alone: s;\
+        a change behind the sheet: s,c c1 a0;\
+        the sheet taken back: s,-;",
     );
-    answered(b"list, the sheet taken back", log.undo());
-}
-
-// One call after another: the record goes from each to the next.
-fn changed(label: &[u8], r: Record, c: i64, arm: i64, flag: u64) -> Record {
-    let k = r.change(part(c, arm, flag));
-    answered(label, k);
-    k.log
-}
-
-fn weighed(label: &[u8], r: Record, w: Weighing) -> Record {
-    let k = r.weigh(w);
-    answered(label, k);
-    k.log
-}
-
-fn installed(label: &[u8], r: Record) -> Record {
-    let k = r.install(sample::plain());
-    answered(label, k);
-    k.log
-}
-
-fn undone(label: &[u8], r: Record) -> Record {
-    let k = r.undo();
-    answered(label, k);
-    k.log
 }
 
 // Taking a weighing back brings the older one and its changes back.
 fn two_weighings() {
-    let r = sample::weighed(100_000);
-    let r = changed(b"two weighings, change of the first", r, 1_000, 2_000, 1);
-    let r = changed(b"two weighings, change of the first", r, -500, -3_000, 0);
-    let r = weighed(b"two weighings, the second", r, second());
-    let r = changed(b"two weighings, change of the second", r, 55, -700, 0);
-    let r = undone(b"two weighings, taken back", r);
-    let r = undone(b"two weighings, taken back", r);
-    let r = undone(b"two weighings, taken back", r);
-    let r = changed(b"two weighings, another change", r, 7, 11, 0);
-    let r = undone(b"two weighings, taken back", r);
-    let r = undone(b"two weighings, taken back", r);
-    let r = undone(b"two weighings, taken back", r);
-    undone(b"two weighings, taken back", r);
+    cases(
+        b"two weighings, ",
+        b"",
+        b"change of the first: & w,c a2000 f1;\
+        change of the first: & c c-500 a-3000;\
+        the second: & v;\
+        change of the second: & c c55 a-700;\
+        taken back: & -;\
+        taken back: & -;\
+        taken back: & -;\
+        another change: & c c7 a11;\
+        taken back: & -;\
+        taken back: & -;\
+        taken back: & -;\
+        taken back: & -;",
+    );
 }
 
 // Sheets before, between and behind count for nothing in the balance.
 fn sheets_between() {
-    let r = installed(b"sheets, before", Record::fresh());
-    let r = weighed(b"sheets, weighing", r, second());
-    let r = installed(b"sheets, behind the weighing", r);
-    let r = changed(b"sheets, change", r, 55, -700, 1);
-    let r = installed(b"sheets, between the changes", r);
-    let r = changed(b"sheets, change", r, -100, 900, 0);
-    let r = installed(b"sheets, behind the changes", r);
-    let r = undone(b"sheets, taken back", r);
-    let r = undone(b"sheets, taken back", r);
-    let r = undone(b"sheets, taken back", r);
-    undone(b"sheets, taken back", r);
+    cases(
+        b"sheets, ",
+        b"",
+        b"before: & s;\
+        weighing: & v;\
+        behind the weighing: & s;\
+        change: & c c55 a-700 f1;\
+        between the changes: & s;\
+        change: & c c-100 a900;\
+        behind the changes: & s;\
+        taken back: & -;\
+        taken back: & -;\
+        taken back: & -;\
+        taken back: & -;",
+    );
 }
 
 // The total and the non-lifting weight go from change to change, and begin anew with a weighing.
 fn carried() {
-    let r = sample::weighed(100_000);
-    let r = changed(b"carried, n 150000", r, 50_000, 0, 1);
-    let r = changed(b"carried, n 0", r, -150_000, 0, 1);
-    let r = changed(b"carried, n -1", r, -1, 0, 1);
-    let r = changed(b"carried, G 2000000", r, 1_800_000, 0, 0);
-    let r = changed(b"carried, G 2000001", r, 1, 0, 0);
-    let r = changed(b"carried, G 1999999", r, -1, 0, 0);
-    let r = changed(b"carried, G 2000000, n 1", r, 1, 0, 1);
-    let r = weighed(b"carried, weighed again", r, second());
-    let r = changed(b"carried, n -1 again", r, -1, 0, 1);
-    let r = changed(b"carried, G 0", r, -445, 0, 0);
-    changed(b"carried, G 1", r, -444, 0, 0);
+    cases(
+        b"carried, ",
+        b"",
+        b"n 150000: & w,c c50000 a0 f1;\
+        n 0: & c c-150000 a0 f1;\
+        n -1: & c c-1 a0 f1;\
+        G 2000000: & c c1800000 a0;\
+        G 2000001: & c c1 a0;\
+        G 1999999: & c c-1 a0;\
+        G 2000000, n 1: & c c1 a0 f1;\
+        weighed again: & v;\
+        n -1 again: & c c-1 a0 f1;\
+        G 0: & c c-445 a0;\
+        G 1: & c c-444 a0;",
+    );
 }
 
 // The list filled up and emptied. The line behind 63 calls has the greatest of their numbers.
-fn full_of_sheets() {
-    let r = installed(b"64 sheets, the first", Record::fresh());
-    let k = repeated(r, Step::Install(sample::plain()));
-    answered(b"64 sheets, 63 more", k);
-    let r = installed(b"64 sheets, the 65th", k.log);
-    let r = weighed(b"64 sheets, a weighing", r, second());
-    let r = changed(b"64 sheets, a change", r, 1, 0, 0);
-    let r = undone(b"64 sheets, 63 left", r);
-    let r = changed(b"64 sheets, a change as the 64th", r, 1, 0, 0);
-    let r = weighed(b"64 sheets, a weighing as the 64th", r, second());
-    let r = changed(b"64 sheets, a change as the 65th", r, 1, 0, 0);
-    let k = repeated(r, Step::Back);
-    answered(b"64 sheets, 1 left", k);
-    let r = undone(b"64 sheets, none left", k.log);
-    let r = undone(b"64 sheets, nothing to take back", r);
-    weighed(b"64 sheets, weighed after all", r, second());
-}
-
-fn full_of_changes() {
-    let r = sample::weighed(100_000);
-    let k = repeated(r, Step::Alter(part(1_000, 2_000, 1)));
-    answered(b"63 changes", k);
-    let r = changed(b"63 changes, one more", k.log, 1_000, 2_000, 1);
-    let r = weighed(b"63 changes, a weighing", r, second());
-    let r = undone(b"63 changes, 62 left", r);
-    let r = changed(b"63 changes, another", r, -1_000, 2_000, 0);
-    let k = repeated(r, Step::Back);
-    answered(b"63 changes, none left", k);
-    let r = undone(b"63 changes, the weighing taken back", k.log);
-    undone(b"63 changes, nothing to take back", r);
+fn full() {
+    cases(
+        b"64 sheets, ",
+        b"",
+        b"the first: & s;\
+        63 more: & #s;\
+        the 65th: & s;\
+        a weighing: & v;\
+        a change: & c c1 a0;\
+        63 left: & -;\
+        a change as the 64th: & c c1 a0;\
+        a weighing as the 64th: & v;\
+        a change as the 65th: & c c1 a0;\
+        1 left: & #-;\
+        none left: & -;\
+        nothing to take back: & -;\
+        weighed after all: & v;",
+    );
+    cases(
+        b"63 changes",
+        b"",
+        b": & w,#c a2000 f1;\
+        , one more: & c a2000 f1;\
+        , a weighing: & v;\
+        , 62 left: & -;\
+        , another: & c c-1000 a2000;\
+        , none left: & #-;\
+        , the weighing taken back: & -;\
+        , nothing to take back: & -;",
+    );
 }
 
 // All but 1 g taken out at one arm and put in at the other, and taken out at last, in 63 changes.
-fn swung(r: Record, out: i64, back: i64) -> Kept {
-    let mut log = r;
+fn swung(label: &[u8], weighing: &[u8], out: &[u8], back: &[u8]) {
+    let mut log = played(Record::fresh(), weighing, b"").log;
     for _ in 0usize..31 {
-        let empty = log.change(part(-1_999_999, out, 0)).log;
-        log = empty.change(part(1_999_999, back, 0)).log;
+        log = played(log, out, b"").log;
+        log = played(log, back, b"").log;
     }
-    log.change(part(-1_999_999, out, 0))
+    answered(label, b"", played(log, out, b""));
 }
 
 // The greatest and the least moment and centre of any record.
 fn widest() {
-    let most = Weighing {
-        m: 1,
-        p: 2_000_000,
-        q: 2_000_000,
-        a: 2_000_000,
-        b: 2_000_000,
-        n: 0,
-    };
-    let least = Weighing {
-        m: 1,
-        p: 2_000_000,
-        q: 0,
-        a: -2_000_000,
-        b: 1,
-        n: 0,
-    };
-    let up = Record::fresh().weigh(most).log;
-    let down = Record::fresh().weigh(least).log;
-    answered(b"greatest moment", swung(up, -2_000_000, 2_000_000));
-    answered(b"least moment", swung(down, 2_000_000, -2_000_000));
+    swung(
+        b"greatest moment",
+        b"w p2000000 q2000000 a2000000 b2000000 n0;",
+        b"c c-1999999 a-2000000;",
+        b"c c1999999 a2000000;",
+    );
+    swung(
+        b"least moment",
+        b"w p2000000 q0 a-2000000 b1 n0;",
+        b"c c-1999999 a2000000;",
+        b"c c1999999 a-2000000;",
+    );
 }
 
 // Each refusal from a record of a weighing, a sheet and a change.
 fn refused() {
-    let r = installed(b"refused, sheet", sample::weighed(100_000));
-    let r = changed(b"refused, change", r, 1_000, 2_000, 1);
-    answered(b"refused, reading", r.weigh(sample::readings(1, 0, 0)));
-    answered(
-        b"refused, weighing's arm",
-        r.weigh(sample::distances(1, 0, 0)),
-    );
-    answered(
-        b"refused, non-lifting",
-        r.weigh(sample::nonlifting(1, 300_001)),
-    );
-    answered(
-        b"refused, sheet's arm",
-        r.install(sample::water(2_000_001, 0, 1)),
-    );
-    answered(b"refused, sheet's range", r.install(sample::limits(0, 0)));
-    answered(
-        b"refused, sheet's rows",
-        r.install(sample::rows(0, 1, 256, 1)),
-    );
-    answered(b"refused, change's arm", r.change(part(1, 2_000_001, 0)));
-    answered(b"refused, change's weight", r.change(part(0, 0, 0)));
-    answered(b"refused, total after", r.change(part(-301_000, 0, 0)));
-    answered(
-        b"refused, non-lifting after",
-        r.change(part(-101_001, 0, 1)),
+    cases(
+        b"refused, ",
+        b"",
+        b"sheet: & w,s;\
+        change: & c a2000 f1;\
+        reading: & w p0 q0 n0;\
+        weighing's arm: & w a0 b0;\
+        non-lifting: & w n300001;\
+        sheet's arm: & s c2000001 o0 u1;\
+        sheet's range: & s F0 A0;\
+        sheet's rows: & s n0 t1 o256 u1;\
+        change's arm: & c c1 a2000001;\
+        change's weight: & c c0 a0;\
+        total after: & c c-301000 a0;\
+        non-lifting after: & c c-101001 a0 f1;",
     );
 }
 
 // The refusals one after the other, and then all that stands taken back.
 fn refused_in_turn() {
-    let r = installed(b"in turn, sheet", sample::weighed(100_000));
-    let r = weighed(b"in turn, reading", r, sample::readings(0, 1, 0));
-    let r = weighed(b"in turn, arm", r, sample::distances(1, 0, 0));
-    let r = weighed(b"in turn, non-lifting", r, sample::nonlifting(1, 300_001));
-    let r = changed(b"in turn, change", r, 0, 0, 0);
-    let r = changed(b"in turn, non-lifting after", r, -100_001, 0, 1);
-    let r = changed(b"in turn, accepted", r, -100_000, 0, 1);
-    let r = undone(b"in turn, taken back", r);
-    let r = undone(b"in turn, taken back", r);
-    let r = undone(b"in turn, taken back", r);
-    let r = undone(b"in turn, nothing to take back", r);
-    let r = changed(b"in turn, unweighed", r, 1, 0, 0);
-    let r = weighed(b"in turn, reading", r, sample::readings(1, 0, 0));
-    weighed(b"in turn, weighed again", r, second());
+    cases(
+        b"in turn, ",
+        b"",
+        b"sheet: & w,s;\
+        reading: & w m0 p1 q0 n0;\
+        arm: & w a0 b0;\
+        non-lifting: & w n300001;\
+        change: & c c0 a0;\
+        non-lifting after: & c c-100001 a0 f1;\
+        accepted: & c c-100000 a0 f1;\
+        taken back: & -;\
+        taken back: & -;\
+        taken back: & -;\
+        nothing to take back: & -;\
+        unweighed: & c c1 a0;\
+        reading: & w p0 q0 n0;\
+        weighed again: & v;",
+    );
 }
 
 pub fn run() {
@@ -229,8 +181,7 @@ pub fn run() {
     two_weighings();
     sheets_between();
     carried();
-    full_of_sheets();
-    full_of_changes();
+    full();
     widest();
     refused();
     refused_in_turn();

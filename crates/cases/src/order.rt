@@ -1,136 +1,82 @@
 // Two or more conditions of refusal at once: the first in the call's order gives the number.
-use crate::report;
-use crate::sample;
-use crate::sample::part;
-use paper::Change;
-use paper::Sheet;
-use paper::Weighing;
-use record::Record;
+use crate::report::cases;
 
-// A weighing that is in range with m 1, a 10000 and n 0. Faults: m 0 or 5 (reading), a 2000001 (arm), n 300001
-// (non-lifting).
-fn weighing(m: u64, a: i64, n: u64) -> Weighing {
-    let mut w = sample::nonlifting(m, n);
-    w.a = a;
-    w
-}
-
-// A sheet that is in range with FWD 25000, DRY 380000 and water step 50000. Faults: FWD -2000001 (arm), DRY 0 (range),
-// step 0 (step) or 100 (rows).
-fn sheet(fwd: i64, dry: u64, step: u64) -> Sheet {
-    let mut s = sample::water(30_000, 100_000, step);
-    s.fwd = fwd;
-    s.dry = dry;
-    s
-}
-
-fn weighed(label: &[u8], r: Record, w: Weighing) {
-    lines::text(b"order of a weighing, ");
-    report::answered(label, r.weigh(w));
-}
-
-fn installed(label: &[u8], r: Record, s: Sheet) {
-    lines::text(b"order of a sheet, ");
-    report::answered(label, r.install(s));
-}
-
-fn changed(label: &[u8], r: Record, x: Change) {
-    lines::text(b"order of a change, ");
-    report::answered(label, r.change(x));
-}
-
-fn of_weighing(fresh: Record, full: Record) {
-    weighed(b"none", fresh, weighing(1, 10_000, 0));
-    weighed(b"full", full, weighing(1, 10_000, 0));
-    weighed(b"full and reading", full, weighing(0, 10_000, 0));
-    weighed(b"full and arm", full, weighing(1, 2_000_001, 0));
-    weighed(b"full and non-lifting", full, weighing(1, 10_000, 300_001));
-    weighed(b"reading and arm", fresh, weighing(0, 2_000_001, 0));
-    weighed(
-        b"reading and non-lifting",
-        fresh,
-        weighing(5, 10_000, 300_001),
+// Faults: 64 entries (full), m 0 or 5 (reading), a 2000001 (arm), n 300001 (non-lifting).
+fn of_weighing() {
+    cases(
+        b"order of a weighing, ",
+        b"",
+        b"none: w n0;\
+        full: & w,#s,w n0;\
+        full and reading: & w m0 n0;\
+        full and arm: & w a2000001 n0;\
+        full and non-lifting: & w n300001;\
+        reading and arm: w m0 a2000001 n0;\
+        reading and non-lifting: w m5 n300001;\
+        arm and non-lifting: w a2000001 n300001;\
+        all but full: w m0 a2000001 n300001;\
+        all: & w m0 a2000001 n300001;",
     );
-    weighed(
-        b"arm and non-lifting",
-        fresh,
-        weighing(1, 2_000_001, 300_001),
-    );
-    weighed(b"all but full", fresh, weighing(0, 2_000_001, 300_001));
-    weighed(b"all", full, weighing(0, 2_000_001, 300_001));
 }
 
-fn of_sheet(fresh: Record, full: Record) {
-    installed(b"none", fresh, sheet(25_000, 380_000, 50_000));
-    installed(b"full", full, sheet(25_000, 380_000, 50_000));
-    installed(b"full and arm", full, sheet(-2_000_001, 380_000, 50_000));
-    installed(b"full and range", full, sheet(25_000, 0, 50_000));
-    installed(b"full and step", full, sheet(25_000, 380_000, 0));
-    installed(b"full and rows", full, sheet(25_000, 380_000, 100));
-    installed(b"arm and range", fresh, sheet(-2_000_001, 0, 50_000));
-    installed(
-        b"arm and FWD over AFT",
-        fresh,
-        sheet(2_000_001, 380_000, 50_000),
+// Faults: 64 entries (full), FWD -2000001 (arm), DRY 0 (range), water step 0 (step) or 100 (rows).
+fn of_sheet() {
+    cases(
+        b"order of a sheet, ",
+        b"",
+        b"none: w,s;\
+        full: & w,#s,s;\
+        full and arm: & s F-2000001;\
+        full and range: & s D0;\
+        full and step: & s u0;\
+        full and rows: & s u100;\
+        arm and range: w,s F-2000001 D0;\
+        arm and FWD over AFT: w,s F2000001;\
+        arm and step: w,s F-2000001 u0;\
+        arm and rows: w,s F-2000001 u100;\
+        range and step: w,s D0 u0;\
+        range and rows: w,s D0 u100;\
+        rows: w,s u100;\
+        all but full: w,s F-2000001 D0 u0;\
+        all: & s F-2000001 D0 u0;",
     );
-    installed(b"arm and step", fresh, sheet(-2_000_001, 380_000, 0));
-    installed(b"arm and rows", fresh, sheet(-2_000_001, 380_000, 100));
-    installed(b"range and step", fresh, sheet(25_000, 0, 0));
-    installed(b"range and rows", fresh, sheet(25_000, 0, 100));
-    installed(b"rows", fresh, sheet(25_000, 380_000, 100));
-    installed(b"all but full", fresh, sheet(-2_000_001, 0, 0));
-    installed(b"all", full, sheet(-2_000_001, 0, 0));
 }
 
-// The full and the unweighed: `sheets` is both, `full` has a weighing.
-fn of_change_to_list(sheets: Record, full: Record) {
-    let fresh = Record::fresh();
-    changed(b"full and unweighed", sheets, part(1_000, 5_000, 0));
-    changed(b"full", full, part(1_000, 5_000, 0));
-    changed(b"full and arm", full, part(1_000, 2_000_001, 0));
-    changed(b"full and change", full, part(0, 5_000, 0));
-    changed(b"full and G after", full, part(-300_000, 5_000, 0));
-    changed(b"full and non-lifting", full, part(-100_001, 5_000, 1));
-    changed(b"unweighed", fresh, part(1_000, 5_000, 0));
-    changed(b"unweighed and arm", fresh, part(1_000, 2_000_001, 0));
-    changed(b"unweighed and change", fresh, part(0, 5_000, 0));
-    changed(b"unweighed and flag", fresh, part(1_000, 5_000, 2));
-    changed(b"unweighed and taken out", fresh, part(-1_000, 5_000, 1));
-    changed(b"all but full", fresh, part(0, 2_000_001, 2));
-    changed(b"all", sheets, part(0, 2_000_001, 2));
-}
-
-// The change itself, where the total is 300000 and the non-lifting weight 100000.
-fn of_change(r: Record) {
-    changed(b"arm and c", r, part(0, 2_000_001, 0));
-    changed(b"arm and flag", r, part(1_000, -2_000_001, 2));
-    changed(b"arm and G after", r, part(-300_000, 2_000_001, 0));
-    changed(b"arm and non-lifting", r, part(-100_001, 2_000_001, 1));
-    changed(b"c and non-lifting", r, part(-2_000_001, 5_000, 1));
-    changed(b"flag and non-lifting", r, part(-200_001, 5_000, 2));
-    changed(
-        b"G after and non-lifting, flag 1",
-        r,
-        part(-300_000, 5_000, 1),
+// The list first, then the change itself, where the total is 300000 and the non-lifting weight 100000.
+fn of_change() {
+    cases(
+        b"order of a change, ",
+        b"",
+        b"full and unweighed: s,#s,c;\
+        full: & w,#s,c;\
+        full and arm: & c a2000001;\
+        full and change: & c c0;\
+        full and G after: & c c-300000;\
+        full and non-lifting: & c c-100001 f1;\
+        unweighed: c;\
+        unweighed and arm: c a2000001;\
+        unweighed and change: c c0;\
+        unweighed and flag: c f2;\
+        unweighed and taken out: c c-1000 f1;\
+        all but full: c c0 a2000001 f2;\
+        all: s,#s,c c0 a2000001 f2;\
+        arm and c: w,c c0 a2000001;\
+        arm and flag: w,c a-2000001 f2;\
+        arm and G after: w,c c-300000 a2000001;\
+        arm and non-lifting: w,c c-100001 a2000001 f1;\
+        c and non-lifting: w,c c-2000001 f1;\
+        flag and non-lifting: w,c c-200001 f2;\
+        G after and non-lifting, flag 1: w,c c-300000 f1;\
+        G after and non-lifting, flag 0: w,c c-300000;\
+        G after alone: w,c c1700001 f1;\
+        non-lifting alone, flag 1: w,c c-100001 f1;\
+        non-lifting alone, flag 0: w,c c-200001;\
+        arm, c and non-lifting: w,c c-2000001 a2000001 f1;",
     );
-    changed(
-        b"G after and non-lifting, flag 0",
-        r,
-        part(-300_000, 5_000, 0),
-    );
-    changed(b"G after alone", r, part(1_700_001, 5_000, 1));
-    changed(b"non-lifting alone, flag 1", r, part(-100_001, 5_000, 1));
-    changed(b"non-lifting alone, flag 0", r, part(-200_001, 5_000, 0));
-    changed(b"arm, c and non-lifting", r, part(-2_000_001, 2_000_001, 1));
 }
 
 pub fn run() {
-    let fresh = Record::fresh();
-    let weighed = sample::weighed(100_000);
-    let sheets = sample::filled(fresh);
-    let full = sample::filled(weighed);
-    of_weighing(fresh, full);
-    of_sheet(weighed, full);
-    of_change_to_list(sheets, full);
-    of_change(weighed);
+    of_weighing();
+    of_sheet();
+    of_change();
 }

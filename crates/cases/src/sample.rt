@@ -1,178 +1,89 @@
-// Ordinary entries, each with a part that the caller gives, and records that hold them.
+// Entries by the letters of their fields.
+use crate::texts::number;
+use crate::texts::place_of;
+use crate::texts::signed;
 use paper::Change;
 use paper::Sheet;
 use paper::Station;
 use paper::Weighing;
-use record::Kept;
-use record::Record;
 
-// A weighing by its readings; nothing in it is non-lifting.
-pub fn readings(m: u64, p: u64, q: u64) -> Weighing {
+// The most fields that an entry has.
+const FIELDS: usize = 15;
+
+// The fields with the numbers of a text: each stands behind its field's letter.
+fn replaced(fields: [u64; FIELDS], letters: &[u8], text: &[u8]) -> [u64; FIELDS] {
+    let mut now = fields;
+    let mut i = 0;
+    while i < text.len() {
+        let x = text[i];
+        i += 1;
+        if b'A' <= x {
+            let at = place_of(letters, x);
+            if at < FIELDS {
+                now[at] = number(text, i);
+            }
+        }
+    }
+    now
+}
+
+// The numbers of an ordinary entry, but for those of two texts.
+fn fields(letters: &[u8], ordinary: &[u8], other: &[u8], also: &[u8]) -> [u64; FIELDS] {
+    let x = replaced([0; FIELDS], letters, ordinary);
+    let x = replaced(x, letters, other);
+    replaced(x, letters, also)
+}
+
+// A weighing by the paper's letters.
+pub fn weighing(ordinary: &[u8], other: &[u8], also: &[u8]) -> Weighing {
+    let x = fields(b"mpqabn", ordinary, other, also);
     Weighing {
-        m,
-        p,
-        q,
-        a: 10_000,
-        b: 500_000,
-        n: 0,
+        m: x[0],
+        p: x[1],
+        q: x[2],
+        a: signed(x[3]),
+        b: x[4],
+        n: x[5],
     }
 }
 
-// A weighing by its distances.
-pub fn distances(m: u64, a: i64, b: u64) -> Weighing {
-    Weighing {
-        m,
-        p: 300_000,
-        q: 30_000,
-        a,
-        b,
-        n: 100_000,
+fn station(arm: u64, most: u64, step: u64) -> Station {
+    Station {
+        arm: signed(arm),
+        most,
+        step,
     }
 }
 
-// A weighing by its non-lifting weight.
-pub fn nonlifting(m: u64, n: u64) -> Weighing {
-    Weighing {
-        m,
-        p: 300_000,
-        q: 30_000,
-        a: 10_000,
-        b: 500_000,
-        n,
-    }
-}
-
-// A data sheet with nine rows.
-pub fn plain() -> Sheet {
+// A sheet of nine rows. F is FWD, A AFT, D DRY, W WET, N NLP and l the least load. Front seat, rear seat and water
+// tank have the arms a, b, c, the greatest loads m, n, o and the steps s, t, u.
+pub fn sheet(other: &[u8], also: &[u8]) -> Sheet {
+    let x = fields(
+        b"FADWNlamsbntcou",
+        b"F25000 A42500 D380000 W450000 N240000 l55000 \
+        a-47500 m110000 s1000 b10000 n100000 t50000 c30000 o100000 u50000",
+        other,
+        also,
+    );
     Sheet {
-        fwd: 25_000,
-        aft: 42_500,
-        dry: 380_000,
-        wet: 450_000,
-        nlp: 240_000,
-        front: Station {
-            arm: -47_500,
-            most: 110_000,
-            step: 1_000,
-        },
-        least: 55_000,
-        rear: Station {
-            arm: 10_000,
-            most: 100_000,
-            step: 50_000,
-        },
-        water: Station {
-            arm: 30_000,
-            most: 100_000,
-            step: 50_000,
-        },
+        fwd: signed(x[0]),
+        aft: signed(x[1]),
+        dry: x[2],
+        wet: x[3],
+        nlp: x[4],
+        front: station(x[6], x[7], x[8]),
+        least: x[5],
+        rear: station(x[9], x[10], x[11]),
+        water: station(x[12], x[13], x[14]),
     }
 }
 
-// The sheet with other limits of the centre of gravity.
-pub fn limits(fwd: i64, aft: i64) -> Sheet {
-    let mut s = plain();
-    s.fwd = fwd;
-    s.aft = aft;
-    s
-}
-
-// The sheet with other weights.
-pub fn weights(dry: u64, wet: u64, nlp: u64) -> Sheet {
-    let mut s = plain();
-    s.dry = dry;
-    s.wet = wet;
-    s.nlp = nlp;
-    s
-}
-
-// The sheet with another front seat.
-pub fn front(arm: i64, least: u64, most: u64, step: u64) -> Sheet {
-    let seat = Station { arm, most, step };
-    let mut s = plain();
-    s.front = seat;
-    s.least = least;
-    s
-}
-
-// The sheet with another rear seat.
-pub fn rear(arm: i64, most: u64, step: u64) -> Sheet {
-    let seat = Station { arm, most, step };
-    let mut s = plain();
-    s.rear = seat;
-    s
-}
-
-// The sheet with another water tank.
-pub fn water(arm: i64, most: u64, step: u64) -> Sheet {
-    let tank = Station { arm, most, step };
-    let mut s = plain();
-    s.water = tank;
-    s
-}
-
-// The sheet with other loads and steps of the rear seat and the tank.
-pub fn rows(most: u64, step: u64, capacity: u64, water_step: u64) -> Sheet {
-    let tank = Station {
-        arm: 30_000,
-        most: capacity,
-        step: water_step,
-    };
-    let mut s = rear(10_000, most, step);
-    s.water = tank;
-    s
-}
-
-// A change.
-pub fn part(c: i64, arm: i64, flag: u64) -> Change {
-    Change { c, arm, flag }
-}
-
-// A record of one weighing: total 300000, moment 18000000000 and this non-lifting weight.
-pub fn weighed(n: u64) -> Record {
-    let k = Record::fresh().weigh(nonlifting(1, n));
-    k.log
-}
-
-// A call that is made again and again.
-pub enum Step {
-    Install(Sheet),
-    Alter(Change),
-    Back,
-}
-
-fn call(r: Record, step: Step) -> Kept {
-    match step {
-        Step::Install(s) => r.install(s),
-        Step::Alter(x) => r.change(x),
-        Step::Back => r.undo(),
+// A change: c, arm and flag.
+pub fn change(other: &[u8], also: &[u8]) -> Change {
+    let x = fields(b"caf", b"c1000 a5000 f0", other, also);
+    Change {
+        c: signed(x[0]),
+        arm: signed(x[1]),
+        flag: x[2],
     }
-}
-
-// The later record, and the greater number of the two.
-fn joined(k: Kept, later: Kept) -> Kept {
-    if later.number < k.number {
-        let log = later.log;
-        return Kept {
-            number: k.number,
-            log,
-        };
-    }
-    later
-}
-
-// The same call 63 times: the greatest number that it gave, and the last record.
-pub fn repeated(r: Record, step: Step) -> Kept {
-    let mut k = Kept { number: 0, log: r };
-    for _ in 0usize..63 {
-        k = joined(k, call(k.log, step));
-    }
-    k
-}
-
-// A record with sheets added until it is full.
-pub fn filled(r: Record) -> Record {
-    let first = r.install(plain());
-    let k = repeated(first.log, Step::Install(plain()));
-    k.log
 }

@@ -1,5 +1,4 @@
 // Short files with each of their bytes and each of their numbers altered.
-use crate::compose::between;
 use crate::compose::put;
 use crate::compose::put_word;
 use crate::letters::put_file;
@@ -7,6 +6,7 @@ use crate::report::bracketed;
 use crate::report::number;
 use crate::trial::answered;
 use crate::trial::tried;
+use lines::between;
 use lines::text;
 use std::num::wrapping_add_u8;
 

@@ -1,9 +1,9 @@
 // Writing into buffers of each size.
-use crate::compose::between;
 use crate::report::number;
 use crate::report::sum;
 use crate::report::written;
 use crate::sample;
+use lines::between;
 use lines::text;
 use paper::Written;
 use record::Record;

@@ -29,14 +29,3 @@ pub fn put_header(out: &mut [u8], length: usize, count: u8) {
     put_word(out, 0, wrapping_sub_usize(length, 4));
     put(out, 4, &[1, count]);
 }
-
-// The bytes from one place to another, or all where there are no such places.
-pub fn between(s: &[u8], from: usize, to: usize) -> &[u8] {
-    if s.len() < to {
-        return s;
-    }
-    if to < from {
-        return s;
-    }
-    &s[from..to]
-}

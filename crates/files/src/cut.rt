@@ -1,11 +1,11 @@
 // Files cut off, or with a byte 0 more, and with other counts than their own.
-use crate::compose::between;
 use crate::compose::low;
 use crate::compose::put_header;
 use crate::letters::put_file;
 use crate::report::bracketed;
 use crate::report::number;
 use crate::trial::answered;
+use lines::between;
 use lines::text;
 
 // The answer to the first n bytes, with a header that says n bytes and `count` entries.

@@ -1,9 +1,9 @@
 // Files by letters, each of which stands for an entry.
-use crate::compose::between;
 use crate::compose::low;
 use crate::compose::put;
 use crate::compose::put_header;
 use crate::compose::put_word;
+use lines::between;
 use std::num::wrapping_add_usize;
 
 // The bytes of two weighings, a sheet and two changes, and kind bytes.

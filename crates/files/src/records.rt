@@ -1,9 +1,9 @@
 // Records that files are read into, and that changes are made to then.
-use crate::compose::between;
 use crate::letters::put_file;
 use crate::report::bracketed;
 use crate::sample;
 use crate::trial::kept;
+use lines::between;
 use record::Kept;
 use record::Record;
 

@@ -1,8 +1,8 @@
 // Entries judged in turn: files by their letters.
-use crate::compose::between;
 use crate::letters::put_file;
 use crate::report::bracketed;
 use crate::trial::tried;
+use lines::between;
 use lines::text;
 
 // A line for the file of the letters.

@@ -1,9 +1,9 @@
 // The records of K, G and H, which calls made, and what becomes of them by writing and reading back.
-use crate::compose::between;
 use crate::report::centre_of_gravity;
 use crate::report::hex;
 use crate::report::written;
 use crate::sample;
+use lines::between;
 use lines::text;
 use record::Record;
 

@@ -1,4 +1,4 @@
-// What the programs that try the library print on standard output.
+// What the programs that try the library print on standard output, and parts of what they take.
 use libc::STDOUT_FILENO;
 use record::Record;
 
@@ -29,4 +29,15 @@ pub fn centre_of_gravity(r: Record) {
     signed(c.moment);
     text(b" ");
     signed(c.centre);
+}
+
+// The bytes from one place to another, or all where there are no such places.
+pub fn between(s: &[u8], from: usize, to: usize) -> &[u8] {
+    if s.len() < to {
+        return s;
+    }
+    if to < from {
+        return s;
+    }
+    &s[from..to]
 }

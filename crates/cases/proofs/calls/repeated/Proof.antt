@@ -1,21 +1,21 @@
--- `cases::sample::repeated` ends: its loop counts to 63. Assumes nothing.
-use Prim.Native.Nat.{_≤_, _-_}
+-- `cases::calls::repeated` ends: its loop counts to the number of times. Assumes nothing.
 use borrow.Author.Needs.{needs}
 use native.Mathlib.Omega.{arith}
-use Rattle.cases.proofs.sample.repeated.Statement.{statement}
-use Rattle.cases.proofs.sample.repeated.Tie as tie
+use Prim.Native.Nat.{_≤_, _-_}
+use Rattle.cases.proofs.calls.repeated.Statement.{statement}
+use Rattle.cases.proofs.calls.repeated.Tie as tie
 
 abbrev Inv-loop : tie.InvT-loop
-Inv-loop step k₀ counter₀ k counter = counter ≤ 63
+Inv-loop step times k₀ counter₀ k counter = counter ≤ times
 
 abbrev μ-loop : tie.MeasureT-loop
-μ-loop step k₀ counter₀ k counter = 63 - counter
+μ-loop step times k₀ counter₀ k counter = times - counter
 
 loop-holds : tie.Need-loop-holds Inv-loop μ-loop
 loop-holds c = omega arith
 
-call-requires : tie.Need-call-requires Inv-loop μ-loop
-call-requires c κs = search needs
+called-requires : tie.Need-called-requires Inv-loop μ-loop
+called-requires c κs = search needs
 
 joined-requires : tie.Need-joined-requires Inv-loop μ-loop
 joined-requires c κs = search needs
@@ -35,4 +35,13 @@ returns c = search needs
 pub repeated-spec : {M : Type 1} → statement M
 repeated-spec =
     tie.close
-    (tie.spec Inv-loop μ-loop loop-holds call-requires joined-requires add-counter loop-less loop-again returns)
+    (tie.spec
+    Inv-loop
+    μ-loop
+    loop-holds
+    called-requires
+    joined-requires
+    add-counter
+    loop-less
+    loop-again
+    returns)
