@@ -4,7 +4,8 @@
 //
 // The cases are texts: a label, a colon, the calls with a comma between two, and a semicolon. The line is of the last.
 // w and v weigh, s installs a sheet, c makes a change, - takes back, and # makes the call behind it 63 times. The
-// letters behind w, v, s and c are the fields that are not as in src/sample.rt.
+// letters behind w, v, s and c are the fields that are not as in src/sample.rt. A case begins with a fresh record, and
+// behind & with the record that the last such case left.
 mod calls;
 mod changes;
 mod list;

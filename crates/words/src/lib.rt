@@ -33,7 +33,7 @@ pub fn put_number(out: &mut [u8], at: usize, width: usize, n: u64)
     }
 }
 
-// A signed number as the word that stands for it.
+// A signed number as the word that stands for it. One below what four bytes hold, which no call accepts, is 0.
 pub fn word_of(x: i64) -> u64
     ensures { λ r. ⌜ r ≡ complement 4 x ⌝ }
 {
