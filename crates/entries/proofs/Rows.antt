@@ -1,17 +1,15 @@
 -- The rows of the table as the code has them: few fields, none wider than four bytes, and an entry's by its kind; each by
 -- computing it. Assumes nothing.
 use mathlib.Core.Path.{_≡_, refl, ap, _∙_}
-use mathlib.Core.Bool.{Bool, true, _&&_}
+use mathlib.Core.Bool.{true}
 use mathlib.Core.List.{List, [], _∷_}
 use mathlib.Core.Option.{Option, none, some}
-use Prim.Native.Nat.{ℕ, zero, suc, _+_, _-_, _≤_, _<_}
+use Prim.Native.Nat.{ℕ, suc, _+_, _-_, _≤_, _<_}
 use native.Mathlib.Omega.{arith}
-use lib.Dec.{leb}
 use lib.IntN.{ℤ}
 use lib.ListN.{length, getD, take, replicate}
 use lib.Seq.{take-at}
-use borrow.Author.Tests.{leb-true}
-use Rattle.laws.specs.Tests.{left, right}
+use Rattle.laws.specs.Lists.{atMost, at-most}
 use Rattle.paper.specs.declared.Entry.{Entry}
 use Rattle.paper.specs.File.{Field, layoutOf, kindOf, valuesOf, entryBytes}
 use Rattle.format.specs.Fields.{widths, total, wordsBy, numbersBytes, fields-bytes, widths-length}
@@ -23,26 +21,16 @@ use Rattle.layout.specs.Table.{padded, rowOf, wordsOf, fieldsIn}
 
 -- ---- rows
 
-narrowly : List ℕ → Bool
-narrowly [] = true
-narrowly (w ∷ ws) = leb w 4 && narrowly ws
-
-each : (ws : List ℕ) → narrowly ws ≡ true → (i : ℕ) → getD ws i 0 ≤ 4
-unfolding narrowly
-each [] h i = omega arith
-each (w ∷ ws) h zero = leb-true w 4 (left (leb w 4) (narrowly ws) h)
-each (w ∷ ws) h (suc i) = each ws (right (leb w 4) (narrowly ws) h) i
-
 pub record Listed (fs : List Field) : Type 0 where
   pub some-field : 0 < length fs
   pub few : length fs ≤ 15
   pub narrow : (i : ℕ) → getD (padded (widths fs)) i 0 ≤ 4
 
-row : (fs : List Field) → 0 < length fs → length fs ≤ 15 → narrowly (padded (widths fs)) ≡ true → Listed fs
-row fs h k n = record { some-field = h; few = k; narrow = each (padded (widths fs)) n }
+row : (fs : List Field) → 0 < length fs → length fs ≤ 15 → atMost 4 (padded (widths fs)) ≡ true → Listed fs
+row fs h k n = record { some-field = h; few = k; narrow = at-most 4 (padded (widths fs)) n }
 
 pub listed : (k : ℕ) (fs : List Field) → layoutOf k ≡ some fs → Listed fs
-unfolding layoutOf widths narrowly
+unfolding layoutOf widths atMost
 listed =
     rows (λ k fs. Listed fs)
     (row (fieldsAt 1) (omega arith) (omega arith) refl)

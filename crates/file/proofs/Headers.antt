@@ -1,8 +1,8 @@
 -- Which bytes have a right header, and what they are laid out as then: by the paper's tests, in its order. Assumes nothing.
 use mathlib.Core.Path.{_≡_, refl, sym, _∙_}
-use mathlib.Core.Bool.{Bool, true, false, cond, _&&_, and-false}
+use mathlib.Core.Bool.{true, false, cond, _&&_, and-false}
 use mathlib.Core.List.{List, [], _∷_}
-use mathlib.Core.Option.{Option, none, bind}
+use mathlib.Core.Option.{none, bind}
 use Prim.Native.Nat.{ℕ, _-_, _≤_, _<_}
 use native.Mathlib.Decide.{decLe}
 use native.Mathlib.Omega.{arith}
@@ -11,6 +11,7 @@ use lib.ListN.{length, getD, take, drop, length-drop}
 use lib.Pow.{areBytes}
 use lib.Seq.{drop-drop, getD-drop}
 use borrow.Author.Tests.{le-leb, lt-leb, leb-true, eq-eqb, ne-eqb}
+use Rattle.laws.specs.Options.{none-either, tests-both}
 use Rattle.laws.specs.Tests.{left}
 use Rattle.paper.specs.File.{numberOf, version, takeNumber, takeEntries, takeBody, laidOut}
 use Rattle.file.specs.Parts.{headed}
@@ -51,14 +52,6 @@ unfolding takeBody
 body-none [] h = refl
 body-none (v ∷ []) h = refl
 body-none (v ∷ n ∷ xs) h = absurd (omega arith)
-
-none-either : {A : Type 0} (t : Bool) → cond {A = Option A} t none none ≡ none
-none-either true = refl
-none-either false = refl
-
-tests-both : {A : Type 0} (a b : Bool) (o : Option A) → cond a (cond b o none) none ≡ cond (a && b) o none
-tests-both true b o = refl
-tests-both false b o = refl
 
 -- bytes by their header, where there are enough for one, too few behind the length, and too few for that
 module _ (xs : List ℕ) where

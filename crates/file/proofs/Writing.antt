@@ -5,7 +5,7 @@ use Prim.Native.Nat.{ℕ, _+_, _-_, _≤_, _<_}
 use native.Mathlib.Omega.{arith}
 use lib.ListN.{length, set, length-append}
 use borrow.Author.Tests.{lt-ltb, le-ltb}
-use Rattle.laws.specs.Written.{written, length-written, written-one, written-more, written-first}
+use Rattle.laws.specs.Written.{written, length-written, written-one, written-first, written-follows}
 use Rattle.paper.specs.declared.Entry.{Entry}
 use Rattle.paper.specs.File.{bytesOf, version, bodyBytes, fileBytes}
 use Rattle.paper.specs.Refusals.{firstNumber, writingNumber}
@@ -30,12 +30,6 @@ file-size es =
     let n = length (fileBytes es) - 4 in
     ap length (file-parts es) ∙ length-append (headerOf n (length es)) (bytesIn es) ∙ ap (λ (k : ℕ). k + length (bytesIn es)) (length-header n (length es))
 
--- what is written behind the first k bytes
-follows : (s xs ys : List ℕ) (k : ℕ) → length xs ≡ k → k ≤ length s → written (written s 0 xs) k ys ≡ written s 0 (xs ++ ys)
-follows s xs ys k e h =
-    let f : 0 + length xs ≡ k = omega arith in
-    ap (λ (j : ℕ). written (written s 0 xs) j ys) (sym f) ∙ written-more s 0 xs ys (omega arith)
-
 -- ---- the header, as it is put: the length, the version, the count
 
 module _ (s : List ℕ) (n count : ℕ) (h : 6 ≤ length s) where
@@ -45,14 +39,18 @@ module _ (s : List ℕ) (n count : ℕ) (h : 6 ≤ length s) where
   versioned : set (written s 0 (bytesOf 4 n)) 4 version ≡ written s 0 (bytesOf 4 n ++ version ∷ [])
   versioned =
       written-one (written s 0 (bytesOf 4 n)) 4 version (omega (arith, length-sized))
-      ∙ follows s (bytesOf 4 n) (version ∷ []) 4 (length-bytes 4 n) (omega arith)
+      ∙ written-follows s (bytesOf 4 n) (version ∷ []) 4 (length-bytes 4 n) (omega arith)
 
   pub header-put : written (set (written s 0 (bytesOf 4 n)) 4 version) 5 (bytesOf 1 count) ≡ written s 0 (headerOf n count)
   header-put =
       let five : length (bytesOf 4 n ++ version ∷ []) ≡ 5 = omega (arith, length-append (bytesOf 4 n) (version ∷ []), length-bytes 4 n) in
       ap (λ (t : List ℕ). written t 5 (bytesOf 1 count)) versioned
-      ∙ follows s (bytesOf 4 n ++ version ∷ []) (bytesOf 1 count) 5 five (omega arith)
+      ∙ written-follows s (bytesOf 4 n ++ version ∷ []) (bytesOf 1 count) 5 five (omega arith)
       ∙ ap (written s 0) (append-assoc (bytesOf 4 n) (version ∷ []) (bytesOf 1 count))
+
+-- it leaves the buffer's length as it is
+pub header-length : (s : List ℕ) (n count : ℕ) → 6 ≤ length s → length (written s 0 (headerOf n count)) ≡ length s
+header-length s n count h = length-written s 0 (headerOf n count) (omega (arith, length-header n count))
 
 -- ---- the answers
 
@@ -68,7 +66,7 @@ all-put : (es : List Entry) (s : List ℕ) → length (fileBytes es) ≤ length 
 unfolding over
 all-put es s h =
     let n = length (fileBytes es) - 4 in
-    follows s (headerOf n (length es)) (bytesIn es) 6 (length-header n (length es)) (omega (arith, file-size es))
+    written-follows s (headerOf n (length es)) (bytesIn es) 6 (length-header n (length es)) (omega (arith, file-size es))
     ∙ ap (written s 0) (sym (file-parts es))
     ∙ written-first s (fileBytes es)
 

@@ -1,11 +1,16 @@
 -- Lists: `map` over `++`, a function taken back, the last element apart, one more element of a part, and a list by its
--- elements. Assumes nothing.
+-- elements, and a bound of them. Assumes nothing.
 use mathlib.Core.Path.{_≡_, refl, ap, _∙_}
+use mathlib.Core.Bool.{Bool, true, _&&_}
 use mathlib.Core.List.{List, [], _∷_, _++_, map}
-use Prim.Native.Nat.{ℕ, zero, suc, _+_, _<_}
+use Prim.Native.Nat.{ℕ, zero, suc, _+_, _≤_, _<_}
 use native.Mathlib.Numerals.{add-one}
+use native.Mathlib.Omega.{arith}
+use lib.Dec.{leb}
 use lib.ListN.{length, take, getD, length-append}
 use lib.Seq.{take-suc}
+use borrow.Author.Tests.{leb-true}
+use Rattle.laws.specs.Tests.{left, right}
 
 pub map-append : {A B : Type 0} (f : A → B) (xs ys : List A) → map f (xs ++ ys) ≡ map f xs ++ map f ys
 map-append f [] ys = refl
@@ -34,3 +39,14 @@ by-elements n xs d e = whole xs ∙ ap (λ (k : ℕ). tabulate k (λ (i : ℕ). 
     whole : (ys : List _) → ys ≡ tabulate (length ys) (λ (i : ℕ). getD ys i d)
     whole [] = refl
     whole (y ∷ ys) = ap (λ zs. y ∷ zs) (whole ys)
+
+-- no number of the list is above m
+unfoldable pub atMost : ℕ → List ℕ → Bool
+atMost m [] = true
+atMost m (x ∷ xs) = leb x m && atMost m xs
+
+pub at-most : (m : ℕ) (xs : List ℕ) → atMost m xs ≡ true → (i : ℕ) → getD xs i 0 ≤ m
+unfolding atMost
+at-most m [] h i = omega arith
+at-most m (x ∷ xs) h zero = leb-true x m (left (leb x m) (atMost m xs) h)
+at-most m (x ∷ xs) h (suc i) = at-most m xs (right (leb x m) (atMost m xs) h) i

@@ -1,5 +1,5 @@
 -- Elements written into a list from a place on: those before and behind them stay. Assumes nothing.
-use mathlib.Core.Path.{_≡_, ap, _∙_}
+use mathlib.Core.Path.{_≡_, ap, _∙_, sym}
 use mathlib.Core.List.{List, [], _∷_, _++_, append-assoc, append-nil}
 use Prim.Native.Nat.{ℕ, suc, _+_, _≤_, _<_}
 use native.Mathlib.Omega.{arith}
@@ -65,3 +65,9 @@ written-behind s at x xs h = rw (written-one s at x h) (written-more s at (x ∷
 pub written-first : {A : Type 0} (s : List A) (xs : List A) → written s 0 xs ≡ xs ++ drop (length xs) s
 unfolding written
 written-first s xs = let e : 0 + length xs ≡ length xs = omega arith in rw e
+
+-- behind the first k
+pub written-follows : {A : Type 0} (s xs ys : List A) (k : ℕ) → length xs ≡ k → k ≤ length s → written (written s 0 xs) k ys ≡ written s 0 (xs ++ ys)
+written-follows s xs ys k e h =
+    let f : 0 + length xs ≡ k = omega arith in
+    ap (λ (j : ℕ). written (written s 0 xs) j ys) (sym f) ∙ written-more s 0 xs ys (omega arith)

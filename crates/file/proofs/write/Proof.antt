@@ -5,13 +5,11 @@ use mathlib.Core.Path.{_≡_, sym, ap, _∙_}
 use Prim.Native.Nat.{ℕ, _-_, _≤_}
 use native.Mathlib.Omega.{arith}
 use lib.ListN.{length}
-use Rattle.laws.specs.Written.{length-written}
 use Rattle.paper.specs.File.{fileBytes}
 use Rattle.record.specs.Held.{slotted, heldBy}
 use Rattle.record.proofs.Lists.{slotted-record}
 use Rattle.record.proofs.Replays.{count-is, held-most}
-use Rattle.file.specs.Parts.{headerOf}
-use Rattle.file.proofs.Writing.{length-header, file-size, too-short, long-enough, put-in-all}
+use Rattle.file.proofs.Writing.{header-length, file-size, too-short, long-enough, put-in-all}
 use Rattle.file.proofs.write.Statement.{statement}
 use Rattle.file.proofs.write.Tie as tie
 
@@ -57,9 +55,8 @@ header : (c : tie.After-put-header) → length (c .put-header .last .0) ≡ leng
 header c =
     let n = c .before .before .before in
     let b = n .before .before .before .before in
-    let h = length-header (n .length-of .result - 4) (n .before .before .replay .result .log .count) in
     ap length (c .put-header .ensures)
-    ∙ length-written (b .args .out .now) 0 (headerOf (n .length-of .result - 4) (n .before .before .replay .result .log .count)) (omega (arith, size n, file-size (heldBy (b .args .r))))
+    ∙ header-length (b .args .out .now) _ _ (omega (arith, size n, file-size (heldBy (b .args .r))))
 
 put-entries-requires : tie.Need-put-entries-requires
 put-entries-requires c κs =
