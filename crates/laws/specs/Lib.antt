@@ -3,5 +3,6 @@ pub mod Tests
 pub mod Lists
 pub mod Written
 pub mod Options
+pub mod Slopes
 pub mod Z
 pub mod Floor

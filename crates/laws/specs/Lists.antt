@@ -1,5 +1,5 @@
--- Lists: `map` over `++`, a function taken back, the last element apart, one more element of a part, and a list by its
--- elements, and a bound of them. Assumes nothing.
+-- Lists: `map` over `++`, a function taken back, the last element apart, one more element of a part, a list by its
+-- elements, and what holds of each of them. Assumes nothing.
 use mathlib.Core.Path.{_≡_, refl, ap, _∙_}
 use mathlib.Core.Bool.{Bool, true, _&&_}
 use mathlib.Core.List.{List, [], _∷_, _++_, map}
@@ -50,3 +50,13 @@ unfolding atMost
 at-most m [] h i = omega arith
 at-most m (x ∷ xs) h zero = leb-true x m (left (leb x m) (atMost m xs) h)
 at-most m (x ∷ xs) h (suc i) = at-most m xs (right (leb x m) (atMost m xs) h) i
+
+-- each element is such
+abbrev pub Each : {A : Type 0} → (A → Type 0) → List A → Type 0
+Each P [] = Unit {0}
+Each P (x ∷ xs) = P x × Each P xs
+
+pub each-at : {A : Type 0} (P : A → Type 0) (xs : List A) (i : ℕ) (d : A) → i < length xs → Each P xs → P (getD xs i d)
+each-at P [] i d h e = absurd (omega arith)
+each-at P (x ∷ xs) zero d h e = e .0
+each-at P (x ∷ xs) (suc i) d h e = each-at P xs i d (omega arith) (e .1)

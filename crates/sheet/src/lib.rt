@@ -69,7 +69,7 @@ fn step_holds(t: Station, most: u64) -> bool
 }
 
 // How many loads a station has on the placard.
-fn loads(t: Station) -> u64
+pub fn loads(t: Station) -> u64
     requires { ⌜ (1 ≤ t .step) × (t .most ≤ 2000000) ⌝ }
     ensures { λ r. ⌜ (r ≡ t .most / t .step + 1) × (r ≤ 2000001) ⌝ }
 {

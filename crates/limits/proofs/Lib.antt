@@ -1,0 +1,2 @@
+-- What the proofs share: the lines of limits by the sides that the code carries.
+pub mod Laws

@@ -1,0 +1,2 @@
+-- What the sides of a moment are.
+pub mod Turned

@@ -1,0 +1,6 @@
+-- What a row's search finds, what the ends of the water decide, and what a row prints.
+pub mod Searches
+pub mod Water
+pub mod Lines
+pub mod Convex
+pub mod Rows

@@ -1,0 +1,83 @@
+-- Lists over 0, 1, .. n - 1: one more of them, a list of lists by one index, and how long they are.
+-- Assumes nothing.
+use mathlib.Core.Path.{_≡_, refl, sym, ap, _∙_}
+use mathlib.Core.List.{List, [], _∷_, _++_, map, append-assoc, append-nil, map-map}
+use Prim.Native.Nat.{ℕ, zero, suc, _+_, _*_, _/_, _%_, _≤_, _<_}
+use native.Mathlib.Nat.{mul-le-mul-right, div-mul-le-self}
+use native.Mathlib.Omega.{arith}
+use lib.Arith.{digits-div, digits-mod}
+use lib.ListN.{length, length-append}
+use Rattle.laws.specs.Lists.{map-append, length-more}
+use Rattle.paper.specs.Rows.{below, joined}
+
+pub length-below : (n : ℕ) → length (below n) ≡ n
+unfolding below
+length-below zero = refl
+length-below (suc n) = omega (arith, length-more (below n) n, length-below n)
+
+-- one more
+pub map-below-more : {A : Type 0} (f : ℕ → A) (i : ℕ) → map f (below (suc i)) ≡ map f (below i) ++ f i ∷ []
+unfolding below
+map-below-more f i = map-append f (below i) (i ∷ [])
+
+-- only what f is below n counts
+pub map-below : {A : Type 0} (f g : ℕ → A) (n : ℕ) → ((i : ℕ) → i < n → f i ≡ g i) → map f (below n) ≡ map g (below n)
+unfolding below
+map-below f g zero h = refl
+map-below f g (suc n) h =
+    rw (map-below-more f n, map-below-more g n, map-below f g n (λ i k. h i (omega arith)), h n (omega arith))
+
+-- the next m behind the first n
+pub below-add : (n m : ℕ) → below (n + m) ≡ below n ++ map (λ (j : ℕ). n + j) (below m)
+unfolding below
+below-add n zero = let e : n + 0 ≡ n = omega arith in rw (e, append-nil (below n))
+below-add n (suc m) =
+    let e : n + suc m ≡ suc (n + m) = omega arith in
+    rw (e, below-add n m, map-below-more (λ (j : ℕ). n + j) m)
+    (append-assoc (below n) (map (λ (j : ℕ). n + j) (below m)) ((n + m) ∷ []))
+
+-- a multiple of d by no more than m / d is no more than m
+pub multiple-most : (m d k : ℕ) → k < m / d + 1 → k * d ≤ m
+multiple-most m d k h =
+    omega (arith, mul-le-mul-right {m = k} {n = m / d} d (omega arith), div-mul-le-self m d)
+
+-- ---- lists one behind the other
+
+pub joined-last : {A : Type 0} (xss : List (List A)) (xs : List A) → joined (xss ++ xs ∷ []) ≡ joined xss ++ xs
+unfolding joined
+joined-last [] xs = append-nil xs
+joined-last (ys ∷ xss) xs = ap (λ zs. ys ++ zs) (joined-last xss xs) ∙ sym (append-assoc ys (joined xss) xs)
+
+pub joined-more : {A : Type 0} (f : ℕ → List A) (i : ℕ) → joined (map f (below (suc i))) ≡ joined (map f (below i)) ++ f i
+joined-more f i = rw (map-below-more f i) (joined-last (map f (below i)) (f i))
+
+-- lists of the same length
+pub length-joined : {A : Type 0} (f : ℕ → List A) (k : ℕ) → ((i : ℕ) → length (f i) ≡ k) → (n : ℕ) → length (joined (map f (below n))) ≡ k * n
+unfolding below joined
+length-joined f k h zero = omega arith
+length-joined f k h (suc n) =
+    rw (joined-more f n) (omega (arith, length-append (joined (map f (below n))) (f n), length-joined f k h n, h n))
+
+-- ---- m lists of n by one index: the list varies slowest, the place in it fastest
+
+module _ {A : Type 0} (f : ℕ → ℕ → A) (n : ℕ) where
+  -- the i-th of the lists
+  one-list : (i : ℕ) → map (λ (k : ℕ). f (k / n) (k % n)) (map (λ (j : ℕ). i * n + j) (below n)) ≡ map (f i) (below n)
+  one-list i =
+      map-map (λ (k : ℕ). f (k / n) (k % n)) (λ (j : ℕ). i * n + j) (below n)
+      ∙ map-below (λ (j : ℕ). f ((i * n + j) / n) ((i * n + j) % n)) (f i) n (λ j h. rw (digits-div i h, digits-mod i h))
+
+  pub joined-by-index : (m : ℕ) → joined (map (λ (i : ℕ). map (f i) (below n)) (below m)) ≡ map (λ (k : ℕ). f (k / n) (k % n)) (below (m * n))
+  unfolding below joined
+  joined-by-index zero = let e : 0 * n ≡ 0 = omega arith in rw e
+  joined-by-index (suc m) =
+      let e : suc m * n ≡ m * n + n = omega arith in
+      let h : ℕ → A = λ k. f (k / n) (k % n) in
+      rw (
+        joined-more (λ (i : ℕ). map (f i) (below n)) m,
+        joined-by-index m,
+        e,
+        below-add (m * n) n,
+        map-append h (below (m * n)) (map (λ (j : ℕ). m * n + j) (below n)),
+        one-list m,
+      )

@@ -1,0 +1,30 @@
+-- The rows of a placard by their number: its loads, its row and its line, and what it counts for among the blank ones.
+use Prim.Native.Nat.{ℕ, _+_, _*_, _/_, _%_}
+use mathlib.Core.Bool.{cond}
+use mathlib.Core.List.{List}
+use Rattle.paper.specs.declared.Sheet.{Sheet}
+use Rattle.paper.specs.declared.Row.{Row}
+use Rattle.paper.specs.Record.{Balance}
+use Rattle.paper.specs.Rows.{row, isBlank}
+use Rattle.paper.specs.Placard.{line}
+
+-- how many loads of water there are beside each rear load
+abbrev pub waters : Sheet → ℕ
+waters s = s .water .most / s .water .step + 1
+
+-- rear load and water of the i-th row
+abbrev pub rearAt : Sheet → ℕ → ℕ
+rearAt s i = i / waters s * s .rear .step
+
+abbrev pub waterAt : Sheet → ℕ → ℕ
+waterAt s i = i % waters s * s .water .step
+
+abbrev pub rowAt : Sheet → Balance → ℕ → Row
+rowAt s b i = row s b (rearAt s i) (waterAt s i)
+
+abbrev pub lineAt : Sheet → Balance → ℕ → List ℕ
+lineAt s b i = line (rearAt s i) (waterAt s i) (rowAt s b i)
+
+-- a blank row counts for one
+abbrev pub blanks : Row → ℕ
+blanks x = cond (isBlank x) 1 0

@@ -1,0 +1,2 @@
+-- The paper's row by half-planes.
+pub mod Solved

@@ -1,0 +1,70 @@
+-- What an accepted sheet keeps to, as bounds: each condition of its numbers taken off the list in turn. Assumes nothing.
+use mathlib.Core.Path.{_≡_}
+use mathlib.Core.Bool.{Bool, false, and-false}
+use Prim.Native.Nat.{ℕ, _≤_}
+use native.Mathlib.Omega.{arith}
+use lib.Dec.{leb}
+use lib.IntN.{ℤ, pos, negsuc}
+use lib.Signed.{_≤ℤ_}
+use borrow.Author.Tests.{leb-true}
+use Rattle.laws.specs.Tests.{kept}
+use Rattle.paper.specs.declared.Sheet.{Sheet}
+use Rattle.paper.specs.Units.{isArm}
+use Rattle.paper.specs.Rows.{rowCount}
+use Rattle.paper.specs.Refusals.{firstNumber, badArms, badRanges, badRows, isStepTo, sheetFaults}
+use Rattle.paper.proofs.Units.{arm-range}
+use Rattle.paper.proofs.Numbers.{no-first, no-other}
+use Rattle.sheet.proofs.Laws.{Ranges, ranges, stepped}
+
+-- an arm's range
+abbrev pub IsArm : ℤ → Type 0
+IsArm x = (negsuc 1999999 ≤ℤ x) × (x ≤ℤ pos 2000000)
+
+pub record Arms (s : Sheet) : Type 0 where
+  pub fwd : IsArm (s .fwd)
+  pub aft : IsArm (s .aft)
+  pub front : IsArm (s .front .arm)
+  pub rear : IsArm (s .rear .arm)
+  pub water : IsArm (s .water .arm)
+
+pub record Steps (s : Sheet) : Type 0 where
+  pub front : 1 ≤ s .front .step
+  pub rear : 1 ≤ s .rear .step
+  pub water : 1 ≤ s .water .step
+  pub rows : rowCount s ≤ 256
+
+pub record Accepted (s : Sheet) : Type 0 where
+  pub arms : Arms s
+  pub ranges : Ranges s
+  pub steps : Steps s
+
+arms-of : (s : Sheet) → badArms s ≡ false → Arms s
+unfolding badArms
+arms-of s e =
+    record {
+      fwd = arm-range (s .fwd) (kept (isArm (s .fwd)) e (λ h. simp h));
+      aft = arm-range (s .aft) (kept (isArm (s .aft)) e (λ h. simp (h, and-false)));
+      front = arm-range (s .front .arm) (kept (isArm (s .front .arm)) e (λ h. simp (h, and-false)));
+      rear = arm-range (s .rear .arm) (kept (isArm (s .rear .arm)) e (λ h. simp (h, and-false)));
+      water = arm-range (s .water .arm) (kept (isArm (s .water .arm)) e (λ h. simp (h, and-false)));
+    }
+
+steps-of : (s : Sheet) → badRows s ≡ false → Steps s
+unfolding badRows
+steps-of s e =
+    record {
+      front = stepped 500000 (s .front) (kept (isStepTo 500000 (s .front)) e (λ h. simp h));
+      rear = stepped 500000 (s .rear) (kept (isStepTo 500000 (s .rear)) e (λ h. simp (h, and-false)));
+      water = stepped 2000000 (s .water) (kept (isStepTo 2000000 (s .water)) e (λ h. simp (h, and-false)));
+      rows = leb-true (rowCount s) 256 (kept (leb (rowCount s) 256) e (λ h. simp (h, and-false)));
+    }
+
+pub accepted-sheet : (s : Sheet) → firstNumber (sheetFaults s) ≡ 0 → Accepted s
+unfolding sheetFaults
+accepted-sheet s e =
+    let e₄ = no-other 2 (badArms s) _ (omega arith) e in
+    record {
+      arms = arms-of s (no-first 2 (badArms s) _ (omega arith) e);
+      ranges = ranges (no-first 4 (badRanges s) _ (omega arith) e₄);
+      steps = steps-of s (no-first 5 (badRows s) _ (omega arith) (no-other 4 (badRanges s) _ (omega arith) e₄));
+    }

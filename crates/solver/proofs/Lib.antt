@@ -1,0 +1,3 @@
+-- What the proofs of the solver share.
+pub mod General
+pub mod Spans

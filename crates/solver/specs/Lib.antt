@@ -1,0 +1,2 @@
+-- Loads in a span.
+pub mod Span
