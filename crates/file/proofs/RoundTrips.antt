@@ -1,7 +1,7 @@
 -- Both round trips, as theorems about the published calls: a hypothesis `Post` of a function is what the function's own
 -- contract promises of one call (its arguments, its answer, the arguments as it leaves them). They follow from the promises
 -- and the laws of the format (crate `format`). Assumes nothing.
-use mathlib.Core.Path.{_≡_, refl, sym, ap, _∙_, subst}
+use mathlib.Core.Path.{_≡_, refl, sym, ap, _∙_}
 use mathlib.Core.Bool.{true}
 use mathlib.Core.List.{List, []}
 use mathlib.Core.Option.{Option, none, some}
@@ -9,9 +9,6 @@ use Prim.Native.Nat.{ℕ, _≤_}
 use lib.ListN.{length, take, drop}
 use lib.Seq.{take-append-seam}
 use denote.Ref.{now}
-use Rattle.paper.specs.declared.Weighing.{Weighing}
-use Rattle.paper.specs.declared.Sheet.{Sheet}
-use Rattle.paper.specs.declared.Change.{Change}
 use Rattle.paper.specs.declared.Entry.{Entry}
 use Rattle.paper.specs.declared.Written.{Written}
 use Rattle.paper.specs.File.{fileBytes}
@@ -26,40 +23,12 @@ use Rattle.record.proofs.Lists.{held-record}
 use Rattle.record.proofs.Replays.{held-accepted}
 use Rattle.record.proofs.Turns.{at-most-64}
 use Rattle.record.proofs.Calls.{kept}
-use Rattle.record.proofs.Following.{Made, made-fresh, made-answered}
-use Rattle.record.proofs.Record.fresh.Reads as fresh
-use Rattle.record.proofs.Record.weigh.Reads as weigh
-use Rattle.record.proofs.Record.install.Reads as install
-use Rattle.record.proofs.Record.change.Reads as change
-use Rattle.record.proofs.Record.undo.Reads as undo
+use Rattle.record.proofs.Following.{Made}
 use Rattle.file.specs.Parts.{foundOr}
 use Rattle.file.proofs.Writing.{long-enough}
 use Rattle.file.proofs.Reading.{reading-answer}
 use Rattle.file.proofs.write.Reads as write
 use Rattle.file.proofs.read.Reads as read
-
--- ---- records that calls give
-
--- a fresh one, and what a call returns that was given one, accepted or refused, whatever its arguments
-pub data Given : Record → Type 0 where
-  from-fresh : (r : Record) → fresh.Post tt tt r tt → Given r
-  by-weighing : (r : Record) (w : Weighing) (k : Kept) → Given r → weigh.Post tt (r, (w, tt)) k (r, (w, tt)) → Given (k .log)
-  by-sheet : (r : Record) (s : Sheet) (k : Kept) → Given r → install.Post tt (r, (s, tt)) k (r, (s, tt)) → Given (k .log)
-  by-change : (r : Record) (x : Change) (k : Kept) → Given r → change.Post tt (r, (x, tt)) k (r, (x, tt)) → Given (k .log)
-  by-undo : (r : Record) (k : Kept) → Given r → undo.Post tt (r, tt) k (r, tt) → Given (k .log)
-  by-reading : (r : Record) (κs : _) (i i′ : _) (k : Kept) → Given r → read.Post κs (r, (i, tt)) k (r, (i′, tt)) → Given (k .log)
-
-after : (r : Record) (x : journal.Call) (k : Kept) → Made r → k ≡ answered r x → Made (k .log)
-after r x k m e = subst (λ (j : Kept). Made (j .log)) (sym e) (made-answered r x m)
-
--- the record's invariant holds from a fresh one on: it is the record of the list that it holds
-pub given-made : {r : Record} → Given r → Made r
-given-made (from-fresh r h) = subst Made (sym h) made-fresh
-given-made (by-weighing r w k g h) = after r (journal.weigh w) k (given-made g) h
-given-made (by-sheet r s k g h) = after r (journal.install s) k (given-made g) h
-given-made (by-change r x k g h) = after r (journal.change x) k (given-made g) h
-given-made (by-undo r k g h) = after r journal.undo k (given-made g) h
-given-made (by-reading r κs i i′ k g h) = after r (journal.read (now i)) k (given-made g) h
 
 -- ---- one call
 

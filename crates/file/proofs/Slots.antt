@@ -1,6 +1,6 @@
 -- The bytes of the entries in a record's first slots: one entry more, and how long they are. Assumes nothing.
-use mathlib.Core.Path.{_≡_, sym, ap, _∙_}
-use mathlib.Core.List.{List, [], _∷_, _++_, map, append-assoc, append-nil}
+use mathlib.Core.Path.{_≡_}
+use mathlib.Core.List.{List, [], _∷_, _++_, map}
 use Prim.Native.Nat.{ℕ, zero, suc, _+_, _*_, _≤_, _<_}
 use native.Mathlib.Omega.{arith}
 use lib.ListN.{length, getD, take, length-append, length-map}
@@ -10,6 +10,7 @@ use Rattle.laws.specs.Written.{written, written-more}
 use Rattle.paper.specs.declared.Entry.{Entry}
 use Rattle.paper.specs.File.{entryBytes}
 use Rattle.paper.specs.Rows.{joined}
+use Rattle.paper.proofs.Lists.{joined-last}
 use Rattle.format.specs.Entries.{entry-length, entries-length}
 use Rattle.record.specs.declared.Slot.{Slot}
 use Rattle.record.specs.Held.{entryIn}
@@ -21,11 +22,6 @@ bytesIn es = joined (map entryBytes es)
 -- of the first i slots
 abbrev pub bytesTo : List Slot → ℕ → List ℕ
 bytesTo slots i = bytesIn (map entryIn (take i slots))
-
-joined-more : (xss : List (List ℕ)) (xs : List ℕ) → joined (xss ++ xs ∷ []) ≡ joined xss ++ xs
-unfolding joined
-joined-more [] xs = append-nil xs
-joined-more (ys ∷ xss) xs = ap (λ zs. ys ++ zs) (joined-more xss xs) ∙ sym (append-assoc ys (joined xss) xs)
 
 -- the first i are among the first c
 pub bytes-part : (slots : List Slot) (i c : ℕ) → i ≤ c → length (bytesTo slots i) ≤ length (bytesTo slots c)
@@ -41,7 +37,7 @@ module _ (slots : List Slot) (i : ℕ) (d : Slot) where
   bytes-more h =
       let es = map entryIn (take i slots) in
       let e = entryIn (getD slots i d) in
-      rw (map-take-more entryIn slots i d h, map-append entryBytes es (e ∷ [])) (joined-more (map entryBytes es) (entryBytes e))
+      rw (map-take-more entryIn slots i d h, map-append entryBytes es (e ∷ [])) (joined-last (map entryBytes es) (entryBytes e))
 
   length-more : i < length slots → length (bytesTo slots (i + 1)) ≡ length (bytesTo slots i) + length (entryBytes (entryIn (getD slots i d)))
   length-more h = rw (bytes-more h) (length-append (bytesTo slots i) (entryBytes (entryIn (getD slots i d))))

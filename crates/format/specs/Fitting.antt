@@ -20,9 +20,10 @@ use Rattle.paper.specs.declared.Entry.the-variants as entry
 use Rattle.paper.specs.Units.{isWeight, isArm}
 use Rattle.paper.specs.Record.{Balance, totalOf, weighed, balanceOf}
 use Rattle.paper.specs.File.{Field, complement, fieldValue, byte, word, signedWord, layoutOf, valuesOf}
-use Rattle.paper.specs.Refusals.{firstNumber, isTotal, isNonLifting, badReading, badDistance, weighingFaults, weighingNumber, badArms, badRanges, badRows, sheetFaults, sheetNumber, isNone, isChange, badChange, changeFaults, changeNumber, entryNumber, full}
+use Rattle.paper.specs.Refusals.{firstNumber, isTotal, isNonLifting, badReading, badDistance, weighingFaults, weighingNumber, sheetFaults, sheetNumber, isNone, isChange, badChange, changeFaults, changeNumber, entryNumber, full}
 use Rattle.paper.proofs.Numbers.{no-first, no-other}
 use Rattle.paper.proofs.Units.{arm-range}
+use Rattle.sheet.proofs.Accepted.{accepted-sheet}
 use Rattle.format.specs.Rows.{fieldsOf}
 
 -- a value fits a field: what is written of it is no longer than the field, and reads as it
@@ -89,29 +90,27 @@ weighing-fits w e =
     and done
 
 sheet-fits : (s : Sheet) → firstNumber (sheetFaults s) ≡ 0 → AllFit (fieldsOf (entry.Sheet s)) (valuesOf (entry.Sheet s))
-unfolding sheetFaults layoutOf badArms badRanges badRows isWeight
+unfolding layoutOf
 sheet-fits s e =
-    let e₄ = no-other 2 (badArms s) _ (omega arith) e in
-    let arms = no-first 2 (badArms s) _ (omega arith) e in
-    let ranges = no-first 4 (badRanges s) _ (omega arith) e₄ in
-    let rows = no-first 5 (badRows s) [] (omega arith) (no-other 4 (badRanges s) _ (omega arith) e₄) in
-    let front = most (s .front .most) 500000 ranges (λ h. simp (h, and-false)) in
-    let least = most (s .least) (s .front .most) ranges (λ h. simp (h, and-false)) in
-    fit-signed (s .fwd) (arm (s .fwd) arms (λ h. simp h))
-    and fit-signed (s .aft) (arm (s .aft) arms (λ h. simp (h, and-false)))
-    and fit-word (s .dry) (most (s .dry) 2000000 ranges (λ h. simp (h, and-false)))
-    and fit-word (s .wet) (most (s .wet) 2000000 ranges (λ h. simp (h, and-false)))
-    and fit-word (s .nlp) (most (s .nlp) 2000000 ranges (λ h. simp (h, and-false)))
-    and fit-signed (s .front .arm) (arm (s .front .arm) arms (λ h. simp (h, and-false)))
-    and fit-word (s .least) (omega arith)
-    and fit-word (s .front .most) (omega arith)
-    and fit-word (s .front .step) (omega (arith, most (s .front .step) 500000 rows (λ h. simp (h, and-false))))
-    and fit-signed (s .rear .arm) (arm (s .rear .arm) arms (λ h. simp (h, and-false)))
-    and fit-word (s .rear .most) (omega (arith, most (s .rear .most) 500000 ranges (λ h. simp (h, and-false))))
-    and fit-word (s .rear .step) (omega (arith, most (s .rear .step) 500000 rows (λ h. simp (h, and-false))))
-    and fit-signed (s .water .arm) (arm (s .water .arm) arms (λ h. simp (h, and-false)))
-    and fit-word (s .water .most) (most (s .water .most) 2000000 ranges (λ h. simp (h, and-false)))
-    and fit-word (s .water .step) (most (s .water .step) 2000000 rows (λ h. simp (h, and-false)))
+    let a = accepted-sheet s e in
+    let arms = a .arms in
+    let ranges = a .ranges in
+    let steps = a .steps in
+    fit-signed (s .fwd) (arms .fwd)
+    and fit-signed (s .aft) (arms .aft)
+    and fit-word (s .dry) (omega (arith, ranges .dry, ranges .wet))
+    and fit-word (s .wet) (ranges .wet)
+    and fit-word (s .nlp) (ranges .nlp)
+    and fit-signed (s .front .arm) (arms .front)
+    and fit-word (s .least) (omega (arith, ranges .least, ranges .front))
+    and fit-word (s .front .most) (omega (arith, ranges .front))
+    and fit-word (s .front .step) (omega (arith, steps .front .1))
+    and fit-signed (s .rear .arm) (arms .rear)
+    and fit-word (s .rear .most) (omega (arith, ranges .rear))
+    and fit-word (s .rear .step) (omega (arith, steps .rear .1))
+    and fit-signed (s .water .arm) (arms .water)
+    and fit-word (s .water .most) (ranges .water)
+    and fit-word (s .water .step) (steps .water .1)
     and done
 
 change-fine : (o : Option Balance) (x : Change) → badChange o x ≡ false → isChange x ≡ true

@@ -4,5 +4,6 @@ pub mod Lists
 pub mod Written
 pub mod Options
 pub mod Slopes
+pub mod Division
 pub mod Z
 pub mod Floor

@@ -1,11 +1,11 @@
--- Tests as Bools: what `&&`, `||` and `not` say, both ways. Assumes nothing.
+-- Tests as Bools: what `&&`, `||` and `not` say, both ways, and orders as tests. Assumes nothing.
 use mathlib.Core.Path.{_≡_, refl, sym, _∙_}
 use mathlib.Core.Bool.{Bool, true, false, not, _&&_, _||_}
 use Prim.Native.Nat.{ℕ, _+_, _-_, _≤_}
 use native.Mathlib.Decide.{decLe}
 use native.Mathlib.Omega.{arith}
 use lib.Dec.{leb, ltb}
-use borrow.Author.Tests.{lt-ltb, le-ltb, le-leb, lt-leb, not-true, not-false}
+use borrow.Author.Tests.{lt-ltb, le-ltb, le-leb, lt-leb, leb-true, not-true, not-false}
 
 -- two tests are equal where each passes if the other does
 pub same : (a b : Bool) → (a ≡ true → b ≡ true) → (b ≡ true → a ≡ true) → a ≡ b
@@ -102,3 +102,16 @@ leb-behind w t n h =
       | yes k ↦ rw (le-leb (w + t) n k) (le-leb t (n - w) (omega arith))
       | no k ↦ rw (lt-leb (w + t) n (omega arith)) (lt-leb t (n - w) (omega arith))
     ]
+
+-- a number in a span, as a test and in numbers
+pub in-span : (lo hi p : ℕ) → lo ≤ p → p ≤ hi → (leb lo p && leb p hi) ≡ true
+in-span lo hi p h k = both (leb lo p) (leb p hi) (le-leb lo p h) (le-leb p hi k)
+
+pub span-lo : (lo hi p : ℕ) → (leb lo p && leb p hi) ≡ true → lo ≤ p
+span-lo lo hi p e = leb-true lo p (left (leb lo p) (leb p hi) e)
+
+pub span-hi : (lo hi p : ℕ) → (leb lo p && leb p hi) ≡ true → p ≤ hi
+span-hi lo hi p e = leb-true p hi (right (leb lo p) (leb p hi) e)
+
+pub span : (lo hi p : ℕ) → (leb lo p && leb p hi) ≡ true → (lo ≤ p) × (p ≤ hi)
+span lo hi p e = (span-lo lo hi p e, span-hi lo hi p e)

@@ -1,10 +1,10 @@
 -- Elements written into a list from a place on: those before and behind them stay. Assumes nothing.
 use mathlib.Core.Path.{_≡_, ap, _∙_, sym}
 use mathlib.Core.List.{List, [], _∷_, _++_, append-assoc, append-nil}
-use Prim.Native.Nat.{ℕ, suc, _+_, _≤_, _<_}
+use Prim.Native.Nat.{ℕ, suc, _+_, _-_, _≤_, _<_}
 use native.Mathlib.Omega.{arith}
 use lib.ListN.{length, getD, take, drop, set, length-append, length-drop, take-append-drop}
-use lib.Seq.{length-take-le, take-suc, take-at, drop-at, drop-drop, append-snoc, set-at, set-split}
+use lib.Seq.{length-take-le, take-all, drop-length, take-suc, take-at, drop-at, drop-drop, append-snoc, set-at, set-split}
 
 unfoldable pub written : {A : Type 0} → List A → ℕ → List A → List A
 written s at xs = take at s ++ xs ++ drop (at + length xs) s
@@ -71,3 +71,50 @@ pub written-follows : {A : Type 0} (s xs ys : List A) (k : ℕ) → length xs �
 written-follows s xs ys k e h =
     let f : 0 + length xs ≡ k = omega arith in
     ap (λ (j : ℕ). written (written s 0 xs) j ys) (sym f) ∙ written-more s 0 xs ys (omega arith)
+
+-- ---- several writes, by how many elements are there
+
+module _ {A : Type 0} (s xs : List A) (y : A) (at k : ℕ) (e : length xs ≡ k) (h : at + k < length s) where
+  kept : length (written s at xs) ≡ length s
+  kept = length-written s at xs (omega arith)
+
+  more : (ys : List A) → written (written s at xs) (at + k) ys ≡ written s at (xs ++ ys)
+  more ys = ap (λ (j : ℕ). written (written s at xs) (at + j) ys) (sym e) ∙ written-more s at xs ys (omega arith)
+
+  -- one more
+  pub written-then : set (written s at xs) (at + k) y ≡ written s at (xs ++ y ∷ [])
+  written-then = written-one (written s at xs) (at + k) y (omega (arith, kept)) ∙ more (y ∷ [])
+
+  -- one, and others behind it
+  pub written-between : (zs : List A) → written (set (written s at xs) (at + k) y) (at + (k + 1)) zs ≡ written s at (xs ++ y ∷ zs)
+  written-between zs =
+      let f : at + (k + 1) ≡ at + k + 1 = omega arith in
+      ap (λ (j : ℕ). written (set (written s at xs) (at + k) y) j zs) f
+      ∙ written-behind (written s at xs) (at + k) y zs (omega (arith, kept))
+      ∙ more (y ∷ zs)
+
+-- as the code has it: some, then one, then the others
+pub written-three : {A : Type 0} (s a b xs zs : List A) (y : A) (at k : ℕ) → length xs ≡ k → at + k < length s → a ≡ written s at xs → b ≡ written (set a (at + k) y) (at + (k + 1)) zs → b ≡ written s at (xs ++ y ∷ zs)
+written-three s a b xs zs y at k e h m n = rw (n, m) (written-between s xs y at k e h zs)
+
+-- ---- into the part from a place on
+
+part-written : {A : Type 0} (xs ls : List A) (at : ℕ) → take at xs ++ (written (take (length xs - at) (drop at xs)) 0 ls ++ drop (length xs - at) (drop at xs)) ≡ written xs at ls
+unfolding written
+part-written xs ls at =
+    let ys = drop at xs in
+    let e : length xs - at ≡ length ys = sym (length-drop at xs) in
+    let z : 0 + length ls ≡ length ls = omega arith in
+    rw (
+      e,
+      take-all (length ys) ys (omega arith),
+      drop-length ys,
+      append-nil (ls ++ drop (0 + length ls) ys),
+      z,
+      drop-drop (length ls) at xs,
+      append-assoc (take at xs) ls (drop (at + length ls) xs),
+    )
+
+-- what is written into the part is written into the whole
+pub written-part : {A : Type 0} (xs last ls : List A) (at : ℕ) → last ≡ written (take (length xs - at) (drop at xs)) 0 ls → take at xs ++ (last ++ drop (length xs - at) (drop at xs)) ≡ written xs at ls
+written-part xs last ls at e = rw e (part-written xs ls at)

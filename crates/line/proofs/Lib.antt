@@ -1,4 +1,3 @@
 -- What the proofs share: how long a line and its fields are, one byte more of a field, and fields one behind the other.
-pub mod General
 pub mod Length
 pub mod Turns

@@ -7,7 +7,7 @@ use native.Mathlib.Omega.{arith}
 use lib.ListN.{length, set, replicate, length-replicate, replicate-append-replicate}
 use Rattle.laws.specs.Written.{written, written-none, length-written, written-front}
 use Rattle.paper.specs.Placard.{hyphen, nought, digits}
-use Rattle.line.proofs.General.{written-then}
+use Rattle.laws.specs.Written.{written-then}
 use Rattle.line.proofs.Length.{length-digits}
 
 -- ---- digits

@@ -1,3 +1,4 @@
 -- Laws about the definitions, for the proofs of every crate above.
 pub mod Units
 pub mod Numbers
+pub mod Lists

@@ -5,8 +5,8 @@ use mathlib.Core.Bool.{Bool, true, false, not, _&&_, true≢false}
 use mathlib.Core.List.{List, [], _∷_}
 use Prim.Native.Nat.{ℕ, _%_, _≤_}
 use lib.Dec.{leb, eqb}
-use borrow.Author.Tests.{leb-true, le-leb}
-use Rattle.laws.specs.Tests.{same, both, left, right, right-fails}
+use borrow.Author.Tests.{leb-true}
+use Rattle.laws.specs.Tests.{same, both, left, right, right-fails, in-span, span-lo, span-hi}
 use Rattle.paper.specs.declared.Sheet.{Sheet}
 use Rattle.paper.specs.declared.Row.{Row}
 use Rattle.paper.specs.declared.Row.the-variants.{Range, Blank}
@@ -38,15 +38,12 @@ module _ (s : Sheet) (b : Balance) (r w p : ℕ) (k : keeps s b r w p ≡ true) 
 
 -- ---- the range
 
-in-ends : (lo hi p : ℕ) → lo ≤ p → p ≤ hi → inRange p (Range lo hi) ≡ true
-in-ends lo hi p h k = both (leb lo p) (leb p hi) (le-leb lo p h) (le-leb p hi k)
-
 module _ (s : Sheet) (b : Balance) (r w p : ℕ) where
   -- one in the range of a row whose ends keep every limit
   between-ends : (lo hi : ℕ) → keeps s b r w lo ≡ true → keeps s b r w hi ≡ true → isStep s p ≡ true → inRange p (Range lo hi) ≡ true → keeps s b r w p ≡ true
   between-ends lo hi kl kh step e =
-      let l = leb-true lo p (left (leb lo p) (leb p hi) e) in
-      let h = leb-true p hi (right (leb lo p) (leb p hi) e) in
+      let l = span-lo lo hi p e in
+      let h = span-hi lo hi p e in
       keeps-is s b r w p ∙ both (isStep s p) (upTo (keepsAt s b r p) w) step (up-to (keepsAt s b r p) w (λ v a. convex s b r v lo p hi l h (keeps-at s b r w lo kl v a) (keeps-at s b r w hi kh v a)))
 
   by-outcome : Outcome (keeps s b r w) (s .front .most) → keeps s b r w p ≡ (isStep s p && inRange p (rowOf (keeps s b r w) (s .front .most)))
@@ -54,7 +51,7 @@ module _ (s : Sheet) (b : Balance) (r w p : ℕ) where
       rw e (same (keeps s b r w p) (isStep s p && inRange p (Range lo hi))
       (λ k.
       let m = ends .4 p (step-most s b r w p k) k in
-      both (isStep s p) (inRange p (Range lo hi)) (is-step s b r w p k) (in-ends lo hi p (m .0) (m .1)))
+      both (isStep s p) (inRange p (Range lo hi)) (is-step s b r w p k) (in-span lo hi p (m .0) (m .1)))
       (λ k. between-ends lo hi (ends .0) (ends .1) (left (isStep s p) (inRange p (Range lo hi)) k) (right (isStep s p) (inRange p (Range lo hi)) k)))
   by-outcome (a-blank e none) =
       rw e (same (keeps s b r w p) (isStep s p && false)

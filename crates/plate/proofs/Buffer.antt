@@ -2,12 +2,12 @@
 -- text. Assumes nothing.
 use mathlib.Core.Path.{_≡_, refl, sym}
 use mathlib.Core.Bool.{Bool, true, false, cond}
-use mathlib.Core.List.{List, _++_, map, append-nil, append-assoc}
+use mathlib.Core.List.{List, map}
 use Prim.Native.Nat.{ℕ, zero, suc, _+_, _-_, _*_, _≤_, _<_}
 use native.Mathlib.Numerals.{add-one}
 use native.Mathlib.Omega.{arith}
 use lib.ListN.{length, take, drop, length-drop}
-use lib.Seq.{take-all, drop-drop, drop-length}
+use lib.Seq.{take-all}
 use Rattle.laws.specs.Written.{written, written-none, length-written, written-follows}
 use Rattle.paper.specs.declared.Sheet.{Sheet}
 use Rattle.paper.specs.Record.{Balance}
@@ -21,26 +21,6 @@ pub rest-length : (xs : List ℕ) (i n : ℕ) → i < n → 36 * n ≤ length xs
 rest-length xs i n h k =
     let e : length (drop (36 * i) xs) ≡ length xs - 36 * i = length-drop (36 * i) xs in
     rw (take-all (length xs - 36 * i) (drop (36 * i) xs) (omega arith)) (omega arith)
-
--- what is written into it is written into the buffer
-part-written : (xs ls : List ℕ) (at : ℕ) → take at xs ++ (written (take (length xs - at) (drop at xs)) 0 ls ++ drop (length xs - at) (drop at xs)) ≡ written xs at ls
-unfolding written
-part-written xs ls at =
-    let ys = drop at xs in
-    let e : length xs - at ≡ length ys = sym (length-drop at xs) in
-    let z : 0 + length ls ≡ length ls = omega arith in
-    rw (
-      e,
-      take-all (length ys) ys (omega arith),
-      drop-length ys,
-      append-nil (ls ++ drop (0 + length ls) ys),
-      z,
-      drop-drop (length ls) at xs,
-      append-assoc (take at xs) ls (drop (at + length ls) xs),
-    )
-
-pub put-behind : (xs last ls : List ℕ) (at : ℕ) → last ≡ written (take (length xs - at) (drop at xs)) 0 ls → take at xs ++ (last ++ drop (length xs - at) (drop at xs)) ≡ written xs at ls
-put-behind xs last ls at e = rw e (part-written xs ls at)
 
 -- ---- the lines so far
 

@@ -6,6 +6,7 @@ use Prim.Native.Nat.{ℕ, suc, _+_, _*_, _/_, _%_, _≤_, _<_}
 use native.Mathlib.Nat.{div-lt-iff-lt-mul, mod-lt}
 use native.Mathlib.Omega.{arith}
 use lib.ListN.{length}
+use Rattle.laws.specs.Division.{multiple-most}
 use Rattle.paper.specs.declared.Sheet.{Sheet}
 use Rattle.paper.specs.declared.Row.{Row}
 use Rattle.paper.specs.Record.{Balance}
@@ -13,7 +14,7 @@ use Rattle.paper.specs.Rows.{row, isBlank, below, loadsOf, rowCount, joined, lo
 use Rattle.paper.specs.Placard.{line, text, textLength, blankOf, blankCount}
 use Rattle.plate.specs.Numbered.{waters, rearAt, waterAt, rowAt, lineAt, blanks}
 use Rattle.line.proofs.Length.{length-line}
-use Rattle.plate.proofs.Below.{map-below-more, multiple-most, joined-more, length-joined, joined-by-index}
+use Rattle.paper.proofs.Lists.{map-below-more, joined-more, length-joined, joined-by-index}
 
 -- ---- the loads
 

@@ -1,20 +1,20 @@
 -- What an accepted sheet keeps to, as bounds: each condition of its numbers taken off the list in turn. Assumes nothing.
 use mathlib.Core.Path.{_≡_}
-use mathlib.Core.Bool.{Bool, false, and-false}
+use mathlib.Core.Bool.{false, and-false}
 use Prim.Native.Nat.{ℕ, _≤_}
 use native.Mathlib.Omega.{arith}
 use lib.Dec.{leb}
 use lib.IntN.{ℤ, pos, negsuc}
 use lib.Signed.{_≤ℤ_}
 use borrow.Author.Tests.{leb-true}
-use Rattle.laws.specs.Tests.{kept}
+use Rattle.laws.specs.Tests.{kept, span}
 use Rattle.paper.specs.declared.Sheet.{Sheet}
 use Rattle.paper.specs.Units.{isArm}
 use Rattle.paper.specs.Rows.{rowCount}
 use Rattle.paper.specs.Refusals.{firstNumber, badArms, badRanges, badRows, isStepTo, sheetFaults}
 use Rattle.paper.proofs.Units.{arm-range}
 use Rattle.paper.proofs.Numbers.{no-first, no-other}
-use Rattle.sheet.proofs.Laws.{Ranges, ranges, stepped}
+use Rattle.sheet.proofs.Laws.{Ranges, ranges}
 
 -- an arm's range
 abbrev pub IsArm : ℤ → Type 0
@@ -27,10 +27,14 @@ pub record Arms (s : Sheet) : Type 0 where
   pub rear : IsArm (s .rear .arm)
   pub water : IsArm (s .water .arm)
 
+-- a step's range
+abbrev pub IsStep : ℕ → ℕ → Type 0
+IsStep most x = (1 ≤ x) × (x ≤ most)
+
 pub record Steps (s : Sheet) : Type 0 where
-  pub front : 1 ≤ s .front .step
-  pub rear : 1 ≤ s .rear .step
-  pub water : 1 ≤ s .water .step
+  pub front : IsStep 500000 (s .front .step)
+  pub rear : IsStep 500000 (s .rear .step)
+  pub water : IsStep 2000000 (s .water .step)
   pub rows : rowCount s ≤ 256
 
 pub record Accepted (s : Sheet) : Type 0 where
@@ -53,9 +57,9 @@ steps-of : (s : Sheet) → badRows s ≡ false → Steps s
 unfolding badRows
 steps-of s e =
     record {
-      front = stepped 500000 (s .front) (kept (isStepTo 500000 (s .front)) e (λ h. simp h));
-      rear = stepped 500000 (s .rear) (kept (isStepTo 500000 (s .rear)) e (λ h. simp (h, and-false)));
-      water = stepped 2000000 (s .water) (kept (isStepTo 2000000 (s .water)) e (λ h. simp (h, and-false)));
+      front = span 1 500000 (s .front .step) (kept (isStepTo 500000 (s .front)) e (λ h. simp h));
+      rear = span 1 500000 (s .rear .step) (kept (isStepTo 500000 (s .rear)) e (λ h. simp (h, and-false)));
+      water = span 1 2000000 (s .water .step) (kept (isStepTo 2000000 (s .water)) e (λ h. simp (h, and-false)));
       rows = leb-true (rowCount s) 256 (kept (leb (rowCount s) 256) e (λ h. simp (h, and-false)));
     }
 

@@ -8,7 +8,8 @@ use native.Mathlib.Omega.{arith}
 use lib.Dec.{leb, eqb}
 use lib.ListN.{length, take, getD}
 use borrow.Author.Tests.{leb-true, le-leb, eq-eqb, eqb-true}
-use Rattle.laws.specs.Tests.{same, isnt, both, left, right}
+use Rattle.laws.specs.Tests.{same, isnt, both, left, right, in-span, span-lo, span-hi}
+use Rattle.laws.specs.Division.{multiple-between, multiple-in}
 use Rattle.paper.specs.declared.Row.the-variants.{Range, Blank}
 use Rattle.paper.specs.Rows.{upTo, rowOf}
 use Rattle.planes.specs.declared.HalfPlane.{HalfPlane}
@@ -17,7 +18,6 @@ use Rattle.planes.proofs.Searches.{row-of-ends, row-of-none, row-of-same}
 use Rattle.planes.proofs.Water.{ends-decide, all-hold-none, all-hold-take}
 use Rattle.solver.specs.declared.Span.{Span}
 use Rattle.solver.specs.Span.{within, multiple}
-use Rattle.solver.proofs.General.{in-span, span-lo, span-hi, multiple-between, multiple-in}
 
 -- ---- narrowed by an order
 

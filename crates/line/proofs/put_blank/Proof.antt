@@ -4,7 +4,7 @@ use mathlib.Core.Path.{refl}
 use native.Mathlib.Omega.{arith}
 use lib.ListN.{replicate, length-set}
 use Rattle.paper.specs.Placard.{space, hyphen, ends}
-use Rattle.line.proofs.General.{written-three}
+use Rattle.laws.specs.Written.{written-three}
 use Rattle.line.proofs.put_blank.Statement.{statement}
 use Rattle.line.proofs.put_blank.Tie as tie
 

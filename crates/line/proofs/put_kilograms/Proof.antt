@@ -4,7 +4,7 @@ use Prim.Native.Nat.{_/_, _%_}
 use native.Mathlib.Omega.{arith}
 use lib.ListN.{length-set}
 use Rattle.paper.specs.Placard.{point, digits, kilograms}
-use Rattle.line.proofs.General.{written-three}
+use Rattle.laws.specs.Written.{written-three}
 use Rattle.line.proofs.Length.{length-digits}
 use Rattle.line.proofs.put_kilograms.Statement.{statement}
 use Rattle.line.proofs.put_kilograms.Tie as tie

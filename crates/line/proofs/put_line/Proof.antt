@@ -6,7 +6,7 @@ use Prim.Native.Nat.{ℕ}
 use native.Mathlib.Omega.{arith}
 use lib.ListN.{length, set, length-set}
 use Rattle.paper.specs.Placard.{space, feed, kilograms, ends, line}
-use Rattle.line.proofs.General.{written-then, written-three}
+use Rattle.laws.specs.Written.{written-then, written-three}
 use Rattle.line.proofs.Length.{length-pair, length-fields}
 use Rattle.line.proofs.put_line.Statement.{statement}
 use Rattle.line.proofs.put_line.Tie as tie

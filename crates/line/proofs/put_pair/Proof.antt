@@ -3,7 +3,7 @@ use borrow.Author.Needs.{needs}
 use native.Mathlib.Omega.{arith}
 use lib.ListN.{length-set}
 use Rattle.paper.specs.Placard.{space, kilograms}
-use Rattle.line.proofs.General.{written-three}
+use Rattle.laws.specs.Written.{written-three}
 use Rattle.line.proofs.Length.{length-kilograms}
 use Rattle.line.proofs.put_pair.Statement.{statement}
 use Rattle.line.proofs.put_pair.Tie as tie

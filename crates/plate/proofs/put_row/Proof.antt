@@ -8,17 +8,17 @@ use Rattle.paper.specs.declared.Sheet.{Sheet}
 use Rattle.paper.specs.Placard.{line}
 use Rattle.sheet.proofs.Accepted.{accepted-sheet}
 use Rattle.balance.specs.Balance.{plain}
-use Rattle.laws.specs.Written.{written}
+use Rattle.laws.specs.Written.{written, written-part}
 use Rattle.plate.specs.Numbered.{rearAt, waterAt, blanks}
 use Rattle.plate.proofs.Rows as rows
 use Rattle.plate.proofs.Rows.{row-of, line-of}
-use Rattle.plate.proofs.Buffer.{rest-length, put-behind}
+use Rattle.plate.proofs.Buffer.{rest-length}
 use Rattle.plate.proofs.put_row.Statement.{statement}
 use Rattle.plate.proofs.put_row.Tie as tie
 
 loads-requires : tie.Need-loads-requires
 loads-requires c κs =
-    let a = accepted-sheet (c .before .args .s) (c .before .pre .0) in (a .steps .water, a .ranges .water)
+    let a = accepted-sheet (c .before .args .s) (c .before .pre .0) in (a .steps .water .0, a .ranges .water)
 
 -- the loads are those of the i-th row
 module _ (c : tie.After-loads) where
@@ -89,7 +89,7 @@ returns c =
     let x = row-of (b .args .s) (plain (b .args .b)) (b .args .i) _ _ (r .row .result) (rear l) (water l) (r .row .ensures) in (
       c .blank .ensures .0 ∙ ap blanks x,
       c .blank .ensures .1,
-      put-behind (b .args .out .now) (p .put-line .last .0) _ _
+      written-part (b .args .out .now) (p .put-line .last .0) _ _
           (p .put-line .ensures ∙ ap (written _ 0) (line-of (b .args .s) (plain (b .args .b)) (b .args .i) _ _ _ (rear l) (water l) x)),
     )
 

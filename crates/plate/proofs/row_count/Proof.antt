@@ -8,11 +8,11 @@ use Rattle.plate.proofs.row_count.Statement.{statement}
 use Rattle.plate.proofs.row_count.Tie as tie
 
 loads-requires : tie.Need-loads-requires
-loads-requires c κs = let a = accepted-sheet (c .args .s) (c .pre) in (a .steps .rear, omega (arith, a .ranges .rear))
+loads-requires c κs = let a = accepted-sheet (c .args .s) (c .pre) in (a .steps .rear .0, omega (arith, a .ranges .rear))
 
 loads-requires-2 : tie.Need-loads-requires-2
 loads-requires-2 c κs =
-    let a = accepted-sheet (c .before .args .s) (c .before .pre) in (a .steps .water, a .ranges .water)
+    let a = accepted-sheet (c .before .args .s) (c .before .pre) in (a .steps .water .0, a .ranges .water)
 
 times-requires : tie.Need-times-requires
 times-requires c κs = search needs

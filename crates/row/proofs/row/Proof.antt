@@ -14,7 +14,7 @@ limits-requires c κs = search needs
 find-row-requires : tie.Need-find-row-requires
 find-row-requires c κs =
     let b = c .before .before in
-    (accepted-sheet (b .args .s) (b .pre .0) .steps .front, omega (arith, b .pre .3), c .limits .ensures .1)
+    (accepted-sheet (b .args .s) (b .pre .0) .steps .front .0, omega (arith, b .pre .3), c .limits .ensures .1)
 
 returns : tie.Need-returns
 returns c =

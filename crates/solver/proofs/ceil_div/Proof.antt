@@ -3,7 +3,7 @@ use Prim.Native.Nat.{_-_}
 use borrow.Author.Needs.{needs}
 use native.Mathlib.Nat.{div-le-self}
 use native.Mathlib.Omega.{arith}
-use Rattle.solver.proofs.General.{ceil}
+use Rattle.laws.specs.Division.{ceil}
 use Rattle.solver.proofs.ceil_div.Statement.{statement}
 use Rattle.solver.proofs.ceil_div.Tie as tie
 

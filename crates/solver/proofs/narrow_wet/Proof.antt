@@ -2,7 +2,7 @@
 use borrow.Author.Needs.{needs}
 use native.Mathlib.Omega.{arith}
 use Rattle.solver.specs.Span.{within}
-use Rattle.solver.proofs.General.{product-fits}
+use Rattle.laws.specs.Division.{product-fits}
 use Rattle.solver.proofs.Spans.{dry-and-wet}
 use Rattle.solver.proofs.narrow_wet.Statement.{statement}
 use Rattle.solver.proofs.narrow_wet.Tie as tie

@@ -2,13 +2,12 @@
 -- Assumes nothing.
 use mathlib.Core.Path.{_≡_, refl, sym, ap, _∙_}
 use mathlib.Core.List.{List, [], _∷_, _++_, map, append-assoc, append-nil, map-map}
-use Prim.Native.Nat.{ℕ, zero, suc, _+_, _*_, _/_, _%_, _≤_, _<_}
-use native.Mathlib.Nat.{mul-le-mul-right, div-mul-le-self}
+use Prim.Native.Nat.{ℕ, zero, suc, _+_, _*_, _/_, _%_, _<_}
 use native.Mathlib.Omega.{arith}
 use lib.Arith.{digits-div, digits-mod}
 use lib.ListN.{length, length-append}
 use Rattle.laws.specs.Lists.{map-append, length-more}
 use Rattle.paper.specs.Rows.{below, joined}
 
 pub length-below : (n : ℕ) → length (below n) ≡ n
 unfolding below
@@ -35,11 +34,6 @@ below-add n (suc m) =
     let e : n + suc m ≡ suc (n + m) = omega arith in
     rw (e, below-add n m, map-below-more (λ (j : ℕ). n + j) m)
     (append-assoc (below n) (map (λ (j : ℕ). n + j) (below m)) ((n + m) ∷ []))
-
--- a multiple of d by no more than m / d is no more than m
-pub multiple-most : (m d k : ℕ) → k < m / d + 1 → k * d ≤ m
-multiple-most m d k h =
-    omega (arith, mul-le-mul-right {m = k} {n = m / d} d (omega arith), div-mul-le-self m d)
 
 -- ---- lists one behind the other
 

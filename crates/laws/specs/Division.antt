@@ -1,13 +1,8 @@
--- Division rounded up, numbers in a span, the multiples of a step in one, and a product that fits.
--- Assumes nothing.
+-- Division rounded up, the multiples of a number in a span, and a product that fits. Assumes nothing.
 use Prim.Native.Nat.{ℕ, _+_, _-_, _*_, _/_, _%_, _^_, _≤_, _<_}
 use mathlib.Core.Path.{_≡_}
-use mathlib.Core.Bool.{true, _&&_}
-use native.Mathlib.Nat.{le-div-iff-mul-le, div-lt-iff-lt-mul, div-add-mod', mul-le-mul-right, mul-le-mul}
+use native.Mathlib.Nat.{le-div-iff-mul-le, div-lt-iff-lt-mul, div-add-mod', div-mul-le-self, mul-le-mul-right, mul-le-mul}
 use native.Mathlib.Omega.{arith}
-use lib.Dec.{leb}
-use borrow.Author.Tests.{leb-true, le-leb}
-use Rattle.laws.specs.Tests.{both, left, right}
 
 -- the least number of bs that makes x or more, x above 0
 pub ceil : (x b q : ℕ) → 0 < b → 0 < x → (((x - 1) / b + 1 ≤ q → x ≤ q * b) × (x ≤ q * b → (x - 1) / b + 1 ≤ q))
@@ -21,16 +16,10 @@ product-fits w x hw hx =
     let h : w * x ≤ (2 ^ 30 - 1) * (2 ^ 30 - 1) = mul-le-mul {n₂ = 2 ^ 30 - 1} {m₂ = 2 ^ 30 - 1} (omega arith) (omega arith) in
     omega arith
 
--- ---- a number in a span, as a test and in numbers
-
-pub in-span : (lo hi p : ℕ) → lo ≤ p → p ≤ hi → (leb lo p && leb p hi) ≡ true
-in-span lo hi p h k = both (leb lo p) (leb p hi) (le-leb lo p h) (le-leb p hi k)
-
-pub span-lo : (lo hi p : ℕ) → (leb lo p && leb p hi) ≡ true → lo ≤ p
-span-lo lo hi p e = leb-true lo p (left (leb lo p) (leb p hi) e)
-
-pub span-hi : (lo hi p : ℕ) → (leb lo p && leb p hi) ≡ true → p ≤ hi
-span-hi lo hi p e = leb-true p hi (right (leb lo p) (leb p hi) e)
+-- a multiple of d by no more than m / d is no more than m
+pub multiple-most : (m d k : ℕ) → k < m / d + 1 → k * d ≤ m
+multiple-most m d k h =
+    omega (arith, mul-le-mul-right {m = k} {n = m / d} d (omega arith), div-mul-le-self m d)
 
 -- ---- the multiples of f from lo to hi: f times k to f times hi / f, where k is the least whose product is lo or more
 

@@ -1,0 +1,6 @@
+-- Demand 3 and what its proof rests on: one call more of a list, and how a placard call ends. And the records that lists of
+-- calls give.
+pub mod Calls
+pub mod Endings
+pub mod Demand3
+pub mod Records

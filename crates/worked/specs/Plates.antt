@@ -1,0 +1,68 @@
+-- The gliders of the worked cases: what was weighed, and their sheets.
+use mathlib.Core.List.{List, [], _∷_}
+use Prim.Native.Nat.{ℕ}
+use lib.IntN.{ℤ, pos, negℤ}
+use Rattle.paper.specs.declared.Station.{Station}
+use Rattle.paper.specs.declared.Weighing.{Weighing}
+use Rattle.paper.specs.declared.Sheet.{Sheet}
+use Rattle.paper.specs.declared.Entry.{Entry}
+use Rattle.paper.specs.declared.Entry.the-variants as entry
+
+abbrev pub minus : ℕ → ℤ
+minus n = negℤ (pos n)
+
+abbrev pub station : ℤ → ℕ → ℕ → Station
+station arm most step = record { arm = arm; most = most; step = step }
+
+-- a weighing with n 0
+abbrev pub weighing : ℕ → ℕ → ℕ → ℤ → ℕ → Weighing
+weighing m p q a b = record { m = m; p = p; q = q; a = a; b = b; n = 0 }
+
+-- the Blanik of document 000, and J's sheet for it
+abbrev pub blanik : Weighing
+blanik = weighing 1 310000 29900 (pos 9500) 550000
+
+abbrev pub blanikSheet : Sheet
+blanikSheet =
+    record {
+      fwd = pos 11200;
+      aft = pos 30000;
+      dry = 500000;
+      wet = 500000;
+      nlp = 0;
+      front = station (minus 123200) 110000 1000;
+      least = 0;
+      rear = station (minus 11200) 110000 55000;
+      water = station (pos 0) 0 1;
+    }
+
+-- the Astir, and its sheet with a front arm
+abbrev pub astir : Weighing
+astir = record { m = 1; p = 288000; q = 0; a = pos 63334; b = 500000; n = 140000 }
+
+abbrev pub astirSheet : ℤ → Sheet
+astirSheet arm =
+    record {
+      fwd = pos 25000;
+      aft = pos 42500;
+      dry = 380000;
+      wet = 450000;
+      nlp = 240000;
+      front = station arm 110000 1000;
+      least = 55000;
+      rear = station (pos 0) 0 1;
+      water = station (pos 30000) 100000 50000;
+    }
+
+-- the lists of G, H, I and J
+abbrev pub G : List Entry
+G = entry.Weighing astir ∷ entry.Sheet (astirSheet (minus 47500)) ∷ []
+
+abbrev pub H : List Entry
+H = entry.Weighing astir ∷ entry.Sheet (astirSheet (minus 47500)) ∷ entry.Change (record { c = pos 4500; arm = minus 100000; flag = 1 }) ∷ []
+
+abbrev pub I : List Entry
+I = entry.Weighing astir ∷ entry.Sheet (astirSheet (pos 41625)) ∷ []
+
+abbrev pub J : List Entry
+J = entry.Weighing blanik ∷ entry.Sheet blanikSheet ∷ []

@@ -1,0 +1,89 @@
+-- A row by a shorter search than its definition's, so that it can be computed: only multiples of the front step are tried, each
+-- with none of the water and with all of it, which decide (`both-ends`). It is the same row. Assumes nothing.
+use mathlib.Core.Path.{_≡_, sym, ap, _∙_, fun-ext}
+use mathlib.Core.Bool.{Bool, true, false, _&&_, true≢false}
+use Prim.Native.Nat.{ℕ, zero, suc, _*_, _/_, _%_, _≤_}
+use native.Mathlib.Nat.{div-zero, div-add-mod', div-mul-le-self, mul-le-mul-right}
+use native.Mathlib.Omega.{arith}
+use lib.Dec.{leb, eqb}
+use lib.Ieee.Nearest.{div-mono}
+use borrow.Author.Tests.{eqb-true}
+use Rattle.laws.specs.Tests.{isnt, left}
+use Rattle.paper.specs.declared.Sheet.{Sheet}
+use Rattle.paper.specs.declared.Row.{Row}
+use Rattle.paper.specs.declared.Row.the-variants.{Range, Blank}
+use Rattle.paper.specs.Record.{Balance}
+use Rattle.paper.specs.Rows.{weightWith, momentWith, lines, all, keepsAt, isStep, keeps, smallest, largest, rowOf, row}
+use Rattle.planes.proofs.Searches.{Outcome, a-range, a-blank, outcome, row-of-ends, row-of-none}
+use Rattle.planes.proofs.Rows.{keeps-is, is-step}
+use Rattle.planes.proofs.Convex.{both-ends}
+
+-- ---- multiples of f only
+
+abbrev times : ℕ → Row → Row
+times f (Range lo hi) = Range (lo * f) (hi * f)
+times f Blank = Blank
+
+fewer : (f j n : ℕ) → j ≤ n → j / f ≤ n / f
+fewer zero j n h = rw (div-zero j, div-zero n) (omega arith)
+fewer (suc f) j n h = div-mono j (suc f) n (suc f) (omega arith) (omega arith) (mul-le-mul-right (suc f) h)
+
+by-steps : (q : ℕ → Bool) (n f : ℕ) → ((j : ℕ) → q j ≡ true → j % f ≡ 0) → rowOf q n ≡ times f (rowOf (λ (k : ℕ). q (k * f)) (n / f))
+by-steps q n f h = by (outcome (λ (k : ℕ). q (k * f)) (n / f))
+  where
+    -- a number that passes is a multiple
+    multiple : (j : ℕ) → q j ≡ true → j / f * f ≡ j
+    multiple j e = omega (arith, div-add-mod' j f, h j e)
+
+    below : (k : ℕ) → k ≤ n / f → k * f ≤ n
+    below k m = omega (arith, mul-le-mul-right f m, div-mul-le-self n f)
+
+    by : Outcome (λ (k : ℕ). q (k * f)) (n / f) → rowOf q n ≡ times f (rowOf (λ (k : ℕ). q (k * f)) (n / f))
+    by (a-range lo hi e ends) =
+        rw e (row-of-ends q n (lo * f) (hi * f) (
+          ends .0,
+          ends .1,
+          below lo (ends .2),
+          below hi (ends .3),
+          λ j m t.
+              let k = ends .4 (j / f) (fewer f j n m) (ap q (multiple j t) ∙ t) in (
+                omega (arith, multiple j t, mul-le-mul-right f (k .0)),
+                omega (arith, multiple j t, mul-le-mul-right f (k .1)),
+              ),
+        ))
+    by (a-blank e none) =
+        rw e (row-of-none q n
+        (λ j m. isnt (q j) (λ t. true≢false (sym t ∙ sym (ap q (multiple j t)) ∙ none (j / f) (fewer f j n m)))))
+
+-- ---- the row
+
+-- a front load is a step, and every line holds with none of the water and with all of it
+keepsBoth : Sheet → Balance → ℕ → ℕ → ℕ → Bool
+unfolding isStep keepsAt all lines weightWith momentWith
+keepsBoth s b r w p = isStep s p && (keepsAt s b r p 0 && keepsAt s b r p w)
+
+unfoldable pub rowBy : Sheet → Balance → ℕ → ℕ → Row
+unfolding keepsBoth rowOf smallest largest
+rowBy s b r w =
+    times (s .front .step) (rowOf (λ (k : ℕ). keepsBoth s b r w (k * s .front .step)) (s .front .most / s .front .step))
+
+keeps-both : (s : Sheet) (b : Balance) (r w p : ℕ) → keeps s b r w p ≡ keepsBoth s b r w p
+unfolding keepsBoth
+keeps-both s b r w p = keeps-is s b r w p ∙ ap (λ (x : Bool). isStep s p && x) (both-ends s b r p w)
+
+step-multiple : (s : Sheet) (b : Balance) (r w p : ℕ) → keeps s b r w p ≡ true → p % s .front .step ≡ 0
+unfolding isStep
+step-multiple s b r w p e =
+    let t = eqb (p % s .front .step) 0 in
+    eqb-true (p % s .front .step) 0
+    (left t (leb (s .least) p) (left (t && leb (s .least) p) (leb p (s .front .most)) (is-step s b r w p e)))
+
+pub row-is : (s : Sheet) (b : Balance) → row s b ≡ rowBy s b
+unfolding row rowBy
+row-is s b =
+    fun-ext (λ r.
+    fun-ext (λ w.
+    by-steps (keeps s b r w) (s .front .most) (s .front .step) (step-multiple s b r w)
+    ∙ ap
+    (λ (q : ℕ → Bool). times (s .front .step) (rowOf (λ (k : ℕ). q (k * s .front .step)) (s .front .most / s .front .step)))
+    (fun-ext (λ p. keeps-both s b r w p))))
