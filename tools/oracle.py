@@ -2,6 +2,7 @@
 
     python3 tools/oracle.py cases > crates/cases/stdout
     python3 tools/oracle.py files > crates/files/stdout
+    python3 tools/oracle.py plates > crates/plates/stdout
 
 A journal is the tuple of the entries accepted so far. A call takes a journal and answers its number, 0 where it is
 accepted, and the journal afterwards.
@@ -19,7 +20,7 @@ MOST_ENTRIES = 64
 
 # Numbers of refusal.
 READING, ARM, NONLIFTING, SHEET, ROWS, CHANGE = 1, 2, 3, 4, 5, 6
-UNWEIGHED, FULL, BARE, SHORT, FILE = 7, 9, 10, 11, 12
+UNWEIGHED, NO_SHEET, FULL, BARE, SHORT, FILE = 7, 8, 9, 10, 11, 12
 
 
 # The entries, their fields in the order of the file.
@@ -278,12 +279,91 @@ def read(journal, data):
     return 0, found
 
 
+# A row.
+
+
+def keeps_with(s, balance, rear, p, v):
+    """Whether a front load keeps the lines of limits with v of the water aboard."""
+    dry = balance.total + p + rear
+    weight = dry + v
+    moment = balance.moment + p * s.front_arm + rear * s.rear_arm + v * s.water_arm
+    return (
+        dry <= s.dry
+        and weight <= s.wet
+        and (s.nlp == 0 or balance.nonlifting + p + rear <= s.nlp)
+        and moment >= s.fwd * weight
+        and 20 * moment <= (19 * s.aft + s.fwd) * weight
+    )
+
+
+def whole_tank(water):
+    """Each amount that may be left aboard."""
+    return range(water + 1)
+
+
+def both_ends(water):
+    """The amounts that decide: each line is straight in v. `plates.agreement` holds them against the whole tank."""
+    return (0, water)
+
+
+def steps(s):
+    """The multiples of the front step from least to greatest."""
+    return range(-(-s.least_front // s.front_step) * s.front_step, s.greatest_front + 1, s.front_step)
+
+
+def row(s, balance, rear, water, aboard=both_ends):
+    """The smallest and the largest load, or None: step by step from either end."""
+
+    def keeps(p):
+        return all(keeps_with(s, balance, rear, p, v) for v in aboard(water))
+
+    smallest = next(filter(keeps, steps(s)), None)
+    return None if smallest is None else (smallest, next(filter(keeps, reversed(steps(s)))))
+
+
+# The placard.
+
+
+def row_loads(s):
+    """Rear load and water of each row, water fastest."""
+    rears = range(0, s.greatest_rear + 1, s.rear_step)
+    waters = range(0, s.capacity + 1, s.water_step)
+    return [(rear, water) for rear in rears for water in waters]
+
+
+def kilograms(grams):
+    return f"{grams // 1000:04d}.{grams % 1000:03d}"
+
+
+def line(rear, water, ends):
+    front = map(kilograms, ends) if ends else 2 * ["-" * 8]
+    return " ".join([kilograms(rear), kilograms(water), *front]) + "\n"
+
+
+def placard(journal, buffer):
+    """Number, bytes, rows, blank rows and the buffer afterwards."""
+    balance, s = balance_of(journal), sheet_in_force(journal)
+    if balance is None:
+        return UNWEIGHED, 0, 0, 0, buffer
+    if s is None:
+        return NO_SHEET, 0, 0, 0, buffer
+    length = 36 * row_count(s)
+    if len(buffer) < length:
+        return SHORT, 0, 0, 0, buffer
+    rows = [(*loads, row(s, balance, *loads)) for loads in row_loads(s)]
+    text = "".join(line(*each) for each in rows).encode()
+    assert (len(rows), len(text)) == (row_count(s), length)
+    blank = sum(ends is None for _, _, ends in rows)
+    return 0, length, len(rows), blank, text + buffer[length:]
+
+
 if __name__ == "__main__":
     sys.dont_write_bytecode = True
     import cases
     import files
+    import plates
 
-    reports = {"cases": cases.report, "files": files.report}
+    reports = {"cases": cases.report, "files": files.report, "plates": plates.report}
     if len(sys.argv) != 2 or sys.argv[1] not in reports:
         sys.exit(f"usage: python3 tools/oracle.py {'|'.join(reports)}")
     reports[sys.argv[1]]()

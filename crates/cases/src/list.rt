@@ -1,9 +1,10 @@
 // The list: what counts of it, its 64 places, taking back, and that a refusal leaves it as it was.
-use crate::calls::played;
 use crate::report::answered;
 use crate::report::cases;
 use crate::report::reckoned;
 use record::Record;
+use script::calls::played;
+use script::calls::swung;
 
 fn empty() {
     reckoned(b"list, fresh", Record::fresh());
@@ -109,24 +110,20 @@ fn full() {
 }
 
 // All but 1 g taken out at one arm and put in at the other, and taken out at last, in 63 changes.
-fn swung(label: &[u8], weighing: &[u8], out: &[u8], back: &[u8]) {
-    let mut log = played(Record::fresh(), weighing, b"").log;
-    for _ in 0usize..31 {
-        log = played(log, out, b"").log;
-        log = played(log, back, b"").log;
-    }
-    answered(label, b"", played(log, out, b""));
+fn swung_out(label: &[u8], weighing: &[u8], out: &[u8], back: &[u8]) {
+    let log = played(Record::fresh(), weighing, b"").log;
+    answered(label, b"", played(swung(log, out, back, 31), out, b""));
 }
 
 // The greatest and the least moment and centre of any record.
 fn widest() {
-    swung(
+    swung_out(
         b"greatest moment",
         b"w p2000000 q2000000 a2000000 b2000000 n0;",
         b"c c-1999999 a-2000000;",
         b"c c1999999 a2000000;",
     );
-    swung(
+    swung_out(
         b"least moment",
         b"w p2000000 q0 a-2000000 b1 n0;",
         b"c c-1999999 a2000000;",

@@ -1,13 +1,13 @@
 // The lines that the program prints.
-use crate::calls::played;
-use crate::texts::byte_at;
-use crate::texts::place_of;
 use lines::between;
 use lines::centre_of_gravity;
 use lines::text;
 use lines::unsigned;
 use record::Kept;
 use record::Record;
+use script::calls::played;
+use script::texts::byte_at;
+use script::texts::place_of;
 use std::num::wrapping_add_usize;
 
 // A line that has only the centre of gravity.

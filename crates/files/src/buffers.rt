@@ -1,13 +1,13 @@
 // Writing into buffers of each size.
 use crate::report::number;
-use crate::report::sum;
 use crate::report::written;
 use crate::sample;
 use lines::between;
+use lines::sum;
 use lines::text;
+use lines::unwritten;
 use paper::Written;
 use record::Record;
-use std::num::wrapping_add_u64;
 use std::num::wrapping_add_usize;
 
 // Writing into the first n bytes.
@@ -16,19 +16,6 @@ fn write_first(r: Record, out: &mut [u8], n: usize) -> Written {
         return file::write(r, &mut out[0..n]);
     }
     file::write(r, out)
-}
-
-// How many bytes are AA.
-fn unwritten(s: &[u8]) -> u64 {
-    let mut n = 0;
-    let mut i = 0;
-    while i < s.len() {
-        if s[i] == 0xAA {
-            n = wrapping_add_u64(n, 1);
-        }
-        i += 1;
-    }
-    n
 }
 
 // A line for writing into the first n bytes of a buffer of AA: number, length, the sum of the bytes written, and how

@@ -31,22 +31,6 @@ pub fn hex(s: &[u8]) {
     }
 }
 
-// A sum in which each place counts, with one byte more.
-fn mixed(sum: u64, x: u8) -> u64 {
-    sum % 1_000_003 * 257 + x as u64
-}
-
-// The sum of bytes.
-pub fn sum(s: &[u8]) -> u64 {
-    let mut n = 0;
-    let mut i = 0;
-    while i < s.len() {
-        n = mixed(n, s[i]);
-        i += 1;
-    }
-    n
-}
-
 // What writing answered: number and length.
 pub fn written(w: Written) {
     number(b" ", w.number);

@@ -1,9 +1,9 @@
 // A file read, and what comes of it.
 use crate::report::centre_of_gravity;
 use crate::report::number;
-use crate::report::sum;
 use crate::report::written;
 use lines::between;
+use lines::sum;
 use lines::text;
 use record::Kept;
 use record::Record;

@@ -1,6 +1,7 @@
-// What the programs that try the library print on standard output, and parts of what they take.
+// What the programs print on standard output, and parts of what they take.
 use libc::STDOUT_FILENO;
 use record::Record;
+use std::num::wrapping_add_u64;
 
 pub fn text(s: &[u8]) {
     io::write_all(STDOUT_FILENO, s);
@@ -40,4 +41,33 @@ pub fn between(s: &[u8], from: usize, to: usize) -> &[u8] {
         return s;
     }
     &s[from..to]
+}
+
+// A sum in which each place counts, with one byte more.
+fn mixed(sum: u64, x: u8) -> u64 {
+    sum % 1_000_003 * 257 + x as u64
+}
+
+// The sum of bytes.
+pub fn sum(s: &[u8]) -> u64 {
+    let mut n = 0;
+    let mut i = 0;
+    while i < s.len() {
+        n = mixed(n, s[i]);
+        i += 1;
+    }
+    n
+}
+
+// How many bytes are AA, which a buffer has before it is lent.
+pub fn unwritten(s: &[u8]) -> u64 {
+    let mut n = 0;
+    let mut i = 0;
+    while i < s.len() {
+        if s[i] == 0xAA {
+            n = wrapping_add_u64(n, 1);
+        }
+        i += 1;
+    }
+    n
 }

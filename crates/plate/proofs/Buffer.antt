@@ -16,11 +16,11 @@ use Rattle.paper.specs.Placard.{text, blankOf, blankCount}
 use Rattle.plate.specs.Numbered.{rowAt, lineAt, blanks}
 use Rattle.plate.proofs.Rows.{length-lines, lines-more, text-by-index, blank-more, blank-by-index}
 
--- a part of the buffer from a place on
-pub rest-length : (xs : List ℕ) (i n : ℕ) → i < n → 36 * n ≤ length xs → 36 ≤ length (take (length xs - 36 * i) (drop (36 * i) xs))
-rest-length xs i n h k =
-    let e : length (drop (36 * i) xs) ≡ length xs - 36 * i = length-drop (36 * i) xs in
-    rw (take-all (length xs - 36 * i) (drop (36 * i) xs) (omega arith)) (omega arith)
+-- a part of the buffer from a place on holds a line
+pub rest-length : (xs : List ℕ) (at : ℕ) → at + 36 ≤ length xs → 36 ≤ length (take (length xs - at) (drop at xs))
+rest-length xs at h =
+    let e : length (drop at xs) ≡ length xs - at = length-drop at xs in
+    rw (take-all (length xs - at) (drop at xs) (omega arith)) (omega arith)
 
 -- ---- the lines so far
 

@@ -18,7 +18,12 @@ use Rattle.plate.proofs.put_row.Tie as tie
 
 loads-requires : tie.Need-loads-requires
 loads-requires c κs =
-    let a = accepted-sheet (c .before .args .s) (c .before .pre .0) in (a .steps .water .0, a .ranges .water)
+    let a = accepted-sheet (c .before .args .s) (c .before .pre .0) in
+    let r = a .ranges .rear in
+    let w = a .ranges .water in
+    let x = a .steps .rear .0 in
+    let y = a .steps .water .0 in
+    (omega arith, omega arith)
 
 -- the loads are those of the i-th row
 module _ (c : tie.After-loads) where
@@ -72,7 +77,7 @@ part-put-line-end c = search needs
 put-line-requires : tie.Need-put-line-requires
 put-line-requires c κs =
     let b = c .before .before .before .before .before .before in
-    rest-length (b .args .out .now) (b .args .i) _ (b .pre .2) (b .pre .3)
+    rest-length (b .args .out .now) _ (omega (arith, b .pre .2, b .pre .3))
 
 blank-requires : tie.Need-blank-requires
 blank-requires c κs = search needs

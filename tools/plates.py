@@ -1,0 +1,533 @@
+"""What the program `plates` prints, by the oracle's reckoning. Its lines are described in the program's src/."""
+
+import random
+
+from cases import BACK, FRESH, SECOND, repeated, sheet, weighing
+from files import G, H_CHANGE, byte_sum
+from oracle import Balance, Change, Sheet, Weighing, add, balance_of, centre_of_gravity, file_of, placard, read, row
+from oracle import row_loads, sheet_in_force, undo, whole_tank
+
+MOST, MOST_SEAT = 2000000, 500000
+
+# Reading back: the record's own file into a fresh record, the file of G, and that without its last byte.
+AGAIN, READ_G, READ_CUT = "again", "G's file", "cut"
+
+# A sheet of one row that limits nothing but the front load.
+LAX = Sheet(-MOST, MOST, MOST, MOST, 0, 0, 0, MOST_SEAT, 1000, 0, 0, 1, 0, 0, 1)
+
+
+def lax(**fields):
+    return LAX._replace(**fields)
+
+
+def level(**fields):
+    """A glider of 200 kg, half of it non-lifting."""
+    return Weighing(1, 200000, 0, 0, 1, 100000)._replace(**fields)
+
+
+# Calls and lines.
+
+
+def call(journal, step):
+    if step is AGAIN:
+        return read(FRESH, file_of(journal))
+    if step in (READ_G, READ_CUT):
+        return read(journal, file_of(G)[: 89 if step is READ_G else 88])
+    return undo(journal) if step is BACK else add(journal, step)
+
+
+def played(journal, steps):
+    """The last call's number and journal."""
+    number = 0
+    for step in steps:
+        number, journal = call(journal, step)
+    return number, journal
+
+
+def shown(text):
+    """The lines, or of more than twelve the first, the last and the sum of the bytes."""
+    if len(text) <= 432:
+        return text.decode()
+    return f"{text[:36].decode()}{text[-36:].decode()}sum {byte_sum(text)}\n"
+
+
+def printed(label, kept, lent=576):
+    """The first bytes of a longer buffer of AA are lent; 16 behind them are looked at. The journal is handed on."""
+    number, journal = kept
+    answer, length, rows, blank, after = placard(journal, lent * b"\xaa")
+    stay = (after + 16 * b"\xaa")[length:].count(0xAA)
+    assert stay == lent - length + 16
+    print(f"{label}: {number}; {answer} {length} {rows} {blank}; {stay}\n{shown(after[:length])}", end="")
+    return journal
+
+
+def cases(title, journal, *steps):
+    """A line for each step from the same journal."""
+    for label, step in steps:
+        printed(f"{title}, {label}", call(journal, step))
+
+
+def in_turn(title, journal, *steps):
+    for label, step in steps:
+        journal = printed(f"{title}, {label}", call(journal, step))
+    return journal
+
+
+def rows_of(journal, reckoned=balance_of, **aboard):
+    """Rear load, water and ends of each row."""
+    s = sheet_in_force(journal)
+    return [(*loads, row(s, reckoned(journal), *loads, **aboard)) for loads in row_loads(s)]
+
+
+def ends_of(journal, reckoned=balance_of):
+    """The ends of each row in kilograms, or None."""
+    rows = rows_of(journal, reckoned)
+    return [ends and tuple(end / 1000 for end in ends) for _, _, ends in rows]
+
+
+# Both ends of the water, against every v from 0 to w.
+
+
+def agreement():
+    draw = random.Random(1).randint
+    given = 0
+    for _ in range(2000):
+        fwd, dry, total = draw(-60, 40), draw(60, 200), draw(1, 120)
+        limits = (fwd, fwd + draw(1, 60), dry, dry + draw(0, 40), draw(0, 1) * draw(40, 160))
+        front = (draw(-90, 90), draw(0, 20), draw(20, 60), draw(1, 7))
+        s = Sheet(*limits, *front, draw(-90, 90), 4, 2, draw(-90, 90), 12, 4)
+        balance = Balance(total, total * draw(-80, 80) + draw(0, total), draw(0, total))
+        for loads in row_loads(s):
+            ends = row(s, balance, *loads)
+            assert ends == row(s, balance, *loads, aboard=whole_tank)
+            given += ends is not None
+    assert 1000 < given < 17000
+
+
+# The worked cases.
+
+A = Weighing(1, 310000, 29900, 9500, 550000, 0)
+C = Weighing(2, 310000, 280100, -9500, 550000, 0)
+J_SHEET = Sheet(11200, 30000, 500000, 500000, 0, -123200, 0, 110000, 1000, -11200, 110000, 55000, 0, 0, 1)
+H = (*G, H_CHANGE)
+I_SHEET = G[1]._replace(front_arm=41625)
+
+
+def mistakes():
+    """The plates that the paper warns of."""
+    assert rows_of(G, aboard=lambda water: [water])[1] == (0, 50000, (64000, 92000))
+    fine = (G[0], G[1]._replace(front_step=1), H_CHANGE)
+    assert rows_of(fine)[0] == (0, 0, (63001, 87500))
+
+
+def worked():
+    lines = (
+        b"0000.000 0000.000 0071.000 0092.000\n"
+        b"0000.000 0050.000 0071.000 0092.000\n"
+        b"0000.000 0100.000 -------- --------\n"
+    )
+    assert placard(G, bytes(109)) == (0, 108, 3, 1, lines + b"\0")
+    assert ends_of(H)[0] == (64, 87)
+    assert ends_of((G[0], I_SHEET)) == [None, None, None]
+    assert ends_of((A, J_SHEET)) == ends_of((C, J_SHEET)) == [(69, 110), (54, 109), (40, 80)]
+    mistakes()
+    for label, steps in {
+        "A": [A],
+        "C": [C],
+        "D": [Weighing(3, 355, 90, 50, 13350, 0)],
+        "E": [Weighing(4, 460, 15, 3000, 10300, 0)],
+        "F": [Weighing(1, 2, 1, 0, 50001, 0)],
+        "G": G,
+        "G, read back": [*G, AGAIN],
+        "G, from its file": [READ_G],
+        "G, by the gram": [G[0], G[1]._replace(front_step=1)],
+        "H": H,
+        "H, read back": [*H, AGAIN],
+        "H, by the gram": [G[0], G[1]._replace(front_step=1), H_CHANGE],
+        "I": [G[0], I_SHEET],
+        "J": [A, J_SHEET],
+        "J, by C": [C, J_SHEET],
+        "J, read back": [A, J_SHEET, AGAIN],
+        "K": [BACK],
+        "K, read back": [AGAIN],
+    }.items():
+        printed(label, played(FRESH, steps))
+
+
+# Buffers of each size, and the order of the refusals.
+
+
+def sizes(label, steps, *lent):
+    for n in lent:
+        printed(f"{label} into {n}", played(FRESH, steps), n)
+
+
+def buffers():
+    full, over = sheet(greatest_rear=15, rear_step=1, capacity=15, water_step=1), sheet(capacity=101, water_step=1)
+    sizes("nothing", [BACK], 0, 35, 36, 108, 576)
+    sizes("a sheet", [sheet()], 0, 35, 36, 108, 576)
+    sizes("a weighing", [weighing()], 0, 35, 36, 108, 576)
+    sizes("G", G, 0, 1, 35, 36, 72)
+    sizes("G", G, 106, 107, 108, 109, 144)
+    sizes("one row", [level(), LAX], 0, 35, 36, 37, 72)
+    sizes("256 rows", [weighing(), full], 0, 9180, 9215, 9216, 9217)
+    sizes("257 rows", [weighing(), over._replace(greatest_rear=0, capacity=256)], 0, 36, 108, 576, 9216)
+    sizes("306 rows behind 3", [*G, over], 0, 36, 107, 108, 9216)
+
+
+# Document 000.
+
+
+def front_limits(journal):
+    """By front loads of 40, 45, .. 110 kg the least and the greatest rear load in whose row they are."""
+    rows = [(rear, ends) for rear, _, ends in rows_of(journal) if ends]
+    table = []
+    for front in range(40000, 110001, 5000):
+        rears = [rear // 1000 for rear, (low, high) in rows if low <= front <= high]
+        table.append((min(rears), max(rears)))
+    return table
+
+
+def astir():
+    """Its 88 and 85 kg with 3.0 and 6.0 kg of bars are not followed: 380 kg leaves 89 and 86. Its 67.9 kg for one bar is
+    a slip, by the gram it is 67.768. The form's readings give 633.89 mm, and its text has 633.34. The water's arm and
+    the seat's least load are in no document."""
+    by_text = weighing(p=288000, q=0, a=63334, n=146700)
+    dry = sheet(least_front=0, greatest_rear=0, capacity=0)
+    wet = dry._replace(capacity=100000, water_step=1000)
+    bar = Change(1500, -100000, 1)
+    bars = [(by_text, dry) + n * (bar,) for n in range(5)]
+    assert [ends_of(journal) for journal in bars] == [[(71, 92)], [(68, 90)], [(66, 89)], [(64, 87)], [(61, 86)]]
+    assert rows_of((by_text, dry._replace(front_step=1), bar)) == [(0, 0, (67768, 90500))]
+    waters = ends_of((by_text, wet))
+    assert [waters[w] for w in (91, 87, 82, 77, 72, 71)] == [(71, most) for most in (71, 75, 80, 85, 90, 91)]
+    assert waters[92] is None
+    journal = in_turn("Astir CS", (by_text,), ("no bar", dry))
+    in_turn("Astir CS", journal, *((f"bar {n}", bar) for n in range(1, 5)))
+    printed("Astir CS, its form", add((weighing(p=288000, q=37300, a=9900, b=413000, n=146700),), dry))
+    printed("Astir CS, its water", add((by_text,), wet), 9216)
+
+
+def blanik():
+    """Equation 13 has 300 kg for the empty weight, a slip: its results, and our rows, are those of 310 kg. Its table
+    goes by front loads; all its figures come from our rows."""
+    by_kilogram = (A, J_SHEET._replace(rear_step=1000))
+    least = (107, 88, 69, 50, 31, 13, 0, 0, 0, 0, 0, 0, 0, 0, 0)
+    most = (110, 110, 110, 110, 110, 110, 110, 110, 110, 105, 100, 95, 90, 80, 50)
+    assert front_limits(by_kilogram) == list(zip(least, most))
+    aerobatic = (A, J_SHEET._replace(dry=400000, wet=400000))
+    assert ends_of(aerobatic)[0] == (69, 90)
+    printed("Blanik, tens of kilograms", add((A,), J_SHEET._replace(rear_step=10000)))
+    printed("Blanik, kilograms", add((A,), by_kilogram[1]), 9216)
+    printed("Blanik, aerobatic", add((A,), aerobatic[1]))
+
+
+def twin_astir():
+    """The placard's least solo weight of 69 kg is a slip: the text, the bars' table and our row have 70."""
+    twin = Weighing(1, 414700, 49300, 17300, 457000, 216100)
+    front, rear, water = (-114000, 0, 110000, 1000), (1100, 110000, 10000), (0, 0, 1)
+    by_tens = Sheet(26000, 46000, 650000, 650000, 470000, *front, *rear, *water)
+    by_kilogram = by_tens._replace(rear_step=1000)
+    least = (107, 89, 71, 53, 35, 17, 0, 0, 0, 0, 0, 0, 0, 0, 0)
+    assert front_limits((twin, by_kilogram)) == [(low, 110) for low in least]
+    solo, bar = by_tens._replace(greatest_rear=0), Change(1500, -160000, 1)
+    bars = [(twin, solo) + n * (bar,) for n in range(7)]
+    assert [ends_of(journal) for journal in bars] == [[(low, 110)] for low in (70, 68, 66, 64, 62, 60, 58)]
+    printed("Twin Astir, tens of kilograms", add((twin,), by_tens))
+    printed("Twin Astir, kilograms", add((twin,), by_kilogram), 9216)
+    journal = in_turn("Twin Astir", (twin,), ("no bar", solo))
+    in_turn("Twin Astir", journal, *((f"bar {n}", bar) for n in range(1, 7)))
+
+
+def discus():
+    """Lead in the fin. NLP 240 kg and a greatest weight of 525 kg are what its placards come from; the document takes
+    the tank of 184.1 l for 184."""
+    discus = weighing(p=231900, q=0, a=65188, n=113700)
+    limits = {"fwd": 26000, "aft": 40000, "dry": 525000, "wet": 525000, "front_arm": -45000, "least_front": 0}
+    seat = sheet(**limits, greatest_rear=0, capacity=184100, water_step=46000)
+    any_seat = seat._replace(greatest_front=500000, capacity=0)
+    lead = Change(4020, 410000, 1)
+    assert ends_of((discus, any_seat)) == [(72, 126)] and ends_of((discus, any_seat, lead)) == [(89, 122)]
+    assert ends_of((discus, seat)) == 4 * [(72, 110)] + [(72, 109)]
+    assert ends_of((discus, seat, lead)) == 4 * [(89, 110)] + [(89, 105)]
+    in_turn("Discus", (discus,), ("tank", seat), ("lead", lead))
+    in_turn("Discus", (discus,), ("fuselage load", any_seat), ("lead", lead))
+
+
+# Forty changes: weight and arm; the parts in the wing stand from 0 to 100000.
+
+CREEPING_AFT = (
+    *((200, 67000), (50, 222000), (250, -11000), (250, 20000), (120, 38000), (150, -113000), (250, -126000)),
+    *((500, -92000), (120, -52000), (400, 87000), (-50, -126000), (50, 153000), (-300, 272000), (-600, 70000)),
+    *((-400, 375000), (80, 346000), (80, 205000), (-250, 191000), (-500, 330000), (600, 401000), (-500, -103000)),
+    *((500, -7000), (-300, -116000), (-300, 117000), (120, 165000), (-300, 336000), (-50, 290000), (200, -120000)),
+    *((120, 179000), (50, 429000), (600, 106000), (500, 101000), (400, 221000), (-500, 19000), (120, 28000)),
+    *((250, 264000), (150, 329000), (-150, 122000), (120, 265000), (150, 72000)),
+)
+CREEPING_FORWARD = (
+    *((50, -124000), (-500, 369000), (150, 31000), (200, 39000), (500, 292000), (-200, 12000), (300, 205000)),
+    *((150, -109000), (300, 239000), (50, 95000), (150, 99000), (400, -47000), (500, 27000), (-500, 400000)),
+    *((-200, 156000), (200, 237000), (300, 9000), (400, 18000), (150, -103000), (-50, -91000), (-200, -31000)),
+    *((-250, 229000), (80, 122000), (80, 434000), (-200, 159000), (-50, 280000), (-300, -132000), (-80, 213000)),
+    *((120, 112000), (600, 205000), (120, 127000), (200, 7000), (-150, 91000), (80, 257000), (-300, -10000)),
+    *((300, 379000), (-150, 401000), (50, 31000), (50, 182000), (-150, 368000)),
+)
+
+
+def rounded_balance(journal):
+    """What a book gives that keeps one centre of gravity to the nearest unit and moves it with each change."""
+    number, total, _, centre = centre_of_gravity(journal[:1])
+    assert number == 0
+    for entry in journal[1:]:
+        if isinstance(entry, Change):
+            _, _, _, centre = centre_of_gravity((Weighing(1, total, 0, centre, 1, 0), entry))
+            total += entry.c
+    return Balance(total, total * centre, balance_of(journal).nonlifting)
+
+
+def forty_changes():
+    """With the centre creeping aft a rounded book's smallest load passes its largest, and all its rows are blank where
+    70 kg are good. With the centre creeping forward it lets 70 kg fly that are too light."""
+    book = weighing(p=288000, q=0, a=63334, n=146700)
+    for title, pairs, fields, ours, rounded in (
+        ("aft", CREEPING_AFT, {"front_arm": -47640, "dry": 360500, "wet": 470000}, (70, 70), None),
+        ("forward", CREEPING_FORWARD, {"front_arm": -47110, "dry": 362000, "wet": 470000}, (71, 71), (70, 71)),
+    ):
+        changes = [Change(c, arm, 0 if 0 <= arm <= 100000 else 1) for c, arm in pairs]
+        number, journal = played((book,), [sheet(least_front=0, greatest_rear=0, **fields), *changes])
+        assert (number, len(changes)) == (0, 40)
+        assert ends_of(journal) == 3 * [ours] and ends_of(journal, rounded_balance) == 3 * [rounded]
+        printed(f"forty changes, creeping {title}", (number, journal))
+        printed(f"forty changes, creeping {title}, read back", call(journal, AGAIN))
+
+
+# The list.
+
+
+def lists():
+    g, g_sheet = G
+    light, over = weighing(p=0, q=0, n=0), sheet(greatest_rear=0, rear_step=1, capacity=256, water_step=1)
+    steps = [("weighing", g), ("no file", READ_CUT), ("sheet", g_sheet), ("nothing", Change(0, 5000, 0))]
+    steps += [("change", H_CHANGE), ("read back", AGAIN), ("another weighing", SECOND), ("no weighing", light)]
+    steps += [("change of it", Change(55, -700, 0)), ("no file", READ_CUT)] + 2 * [("taken back", BACK)]
+    steps += [("257 rows", over)] + 2 * [("taken back", BACK)] + [("no file", READ_CUT), ("G's file", READ_G)]
+    steps += [("another sheet", I_SHEET), ("no change", Change(-288000, 0, 0)), ("read back", AGAIN)]
+    steps += [("taken back", BACK), ("change", H_CHANGE), ("G's file", READ_G)] + 3 * [("taken back", BACK)]
+    steps += [("read back", AGAIN), ("no file", READ_CUT), ("sheet", g_sheet), ("change", H_CHANGE), ("weighing", g)]
+    steps += [("change", H_CHANGE), ("another sheet", I_SHEET), ("taken back", BACK)]
+    in_turn("list", FRESH, *steps)
+
+
+def full_lists():
+    g, g_sheet = G
+    journal = printed("full, changes", repeated(G, Change(50, -100000, 1)))
+    in_turn("full", journal, ("a change", H_CHANGE), ("read back", AGAIN), ("a sheet", g_sheet), ("taken back", BACK))
+    journal = printed("full, sheets", repeated((g_sheet,), g_sheet))
+    steps = [("a weighing", g), ("read back", AGAIN), ("taken back", BACK), ("the weighing", g), ("G's file", READ_G)]
+    in_turn("full", journal, *steps)
+
+
+# Front steps, weights and limits: a glider of 200 kg.
+
+
+def front_steps():
+    for label, least, greatest, step in (
+        ("0 to 110", 0, 110000, 1000),
+        ("55.5 to 110", 55500, 110000, 1000),
+        ("55.001 to 110.999", 55001, 110999, 1000),
+        ("56 to 56", 56000, 56000, 1000),
+        ("none in 55.001 to 55.999", 55001, 55999, 1000),
+        ("none in 55.5 to 55.5", 55500, 55500, 1000),
+        ("0 to 0", 0, 0, 1000),
+        ("0 to 0.999", 0, 999, 1000),
+        ("none in 0.001 to 0.999", 1, 999, 1000),
+        ("step 500, 0 to 499.999", 0, 499999, 500000),
+        ("step 500, 0 to 500", 0, 500000, 500000),
+        ("step 500, 500 to 500", 500000, 500000, 500000),
+        ("step 500, none in 0.001 to 499.999", 1, 499999, 500000),
+        ("step 499.999", 0, 500000, 499999),
+        ("step 0.001, 0 to 500", 0, 500000, 1),
+        ("step 0.001, 55.001 to 55.999", 55001, 55999, 1),
+        ("step 0.007, 0.1 to 0.111", 100, 111, 7),
+        ("step 0.007, none in 0.1 to 0.104", 100, 104, 7),
+    ):
+        s = lax(least_front=least, greatest_front=greatest, front_step=step)
+        assert (ends_of((level(), s)) == [None]) == ("none" in label)
+        printed(f"steps, {label}", add((level(),), s))
+
+
+def weights():
+    rears, waters = {"greatest_rear": 50000, "rear_step": 25000}, {"capacity": 100000, "water_step": 50000}
+    sheets = (
+        *((f"DRY {dry}", lax(dry=dry)) for dry in (290000, 289999, 200999, 200000, 199999, 1)),
+        *((f"WET and DRY {dry}", lax(dry=dry, wet=dry)) for dry in (290000, 200000, 199999, 1)),
+        *((f"NLP {nlp}", lax(nlp=nlp, greatest_front=90000)) for nlp in (0, 180000, 179999, 100000, 99999, 1)),
+        ("DRY without water, WET with it", lax(dry=290000, wet=340000, **waters)),
+        ("WET = DRY", lax(dry=290000, wet=290000, **waters)),
+        ("a kilogram of water over WET", lax(dry=250000, wet=250000, capacity=51000, water_step=25500, front_step=1)),
+        ("a gram of water over WET", lax(dry=200000, wet=200000, capacity=1)),
+        ("DRY with rear loads", lax(dry=290000, **rears)),
+        ("NLP with rear loads", lax(nlp=180000, **rears)),
+        ("NLP with water", lax(nlp=180000, **waters)),
+        ("NLP with both", lax(nlp=180000, **rears, **waters)),
+        ("all with both", lax(nlp=180000, dry=270000, wet=310000, **rears, **waters)),
+        ("DRY below G", sheet(dry=199999)),
+        ("by the gram", lax(nlp=180001, dry=279999, wet=330007, front_step=1, **rears, **waters)),
+    )
+    cases("weights", (level(),), *sheets)
+    for label, change in (("lifting", Change(10000, 0, 0)), ("non-lifting", Change(10000, 0, 1))):
+        printed(f"weights, {label} part", played((level(),), [change, lax(nlp=180000)]))
+    for n in (0, 1, 200000):
+        printed(f"weights, n {n}, NLP 1", played((level(n=n),), [lax(nlp=1)]))
+
+
+def limit(label, a, sheet, **more):
+    printed(f"limits, {label}", add((level(a=a, **more),), sheet))
+
+
+def limits_met():
+    """The load that meets a limit is kept, and with a moment of one more it is not."""
+    aft = lax(fwd=0, aft=20000, front_arm=-1000)
+    limit("aft met at 50", 24000, aft)
+    limit("aft missed by one", 24000, aft, q=1)
+    limit("aft missed by one, by the gram", 24000, aft._replace(front_step=1), q=1)
+    forward = lax(fwd=10000, front_arm=-10000)
+    limit("forward met at 80", 18000, forward)
+    limit("forward missed by one", 18000, forward, m=4, p=200001, q=1)
+    limit("forward missed by one, by the gram", 18000, forward._replace(front_step=1), m=4, p=200001, q=1)
+    limit("forward met at 50, aft between steps", 24000, lax(fwd=0, aft=20000, front_arm=-96000))
+    half = lax(fwd=25000, aft=42510, greatest_front=0)
+    limit("safe aft 41634.5 met", 41634, half, p=2, q=1, n=0)
+    limit("safe aft 41634.5 missed by half", 41634, half, p=2, q=2, n=0)
+    limit("safe aft 0.95", 0, lax(fwd=0, aft=1))
+    limit("safe aft 0.95, centre 1", 1, lax(fwd=0, aft=1))
+    limit("safe aft 0.95 met", 0, lax(fwd=0, aft=1, greatest_front=0), p=20, q=19, n=0)
+    limit("safe aft 0.95 missed", 0, lax(fwd=0, aft=1, greatest_front=0), p=20, q=20, n=0)
+
+
+def ahead():
+    """All arms ahead of the datum, and limits with the datum between them or on one."""
+    s = lax(fwd=-42500, aft=-25000, front_arm=47500)
+    limit("all ahead", -60000, s)
+    limit("all ahead, by the gram", -60000, s._replace(front_step=1))
+    thirds = {"greatest_rear": 60000, "rear_step": 30000, "capacity": 60000, "water_step": 30000}
+    limit("all ahead, rear and water", -60000, s._replace(**thirds))
+    limit("limits on both sides", -60000, lax(fwd=-5000, aft=5000, front_arm=47500))
+    limit("FWD 0", -60000, lax(fwd=0, aft=5000, front_arm=47500))
+    limit("AFT 0", -60000, lax(fwd=-5000, aft=0, front_arm=47500))
+
+
+def front_arms():
+    """Safe aft limit 29000. On a limit the load changes nothing of it: always or never."""
+    for label, arm, centres in (
+        ("ahead of FWD", -50000, (9999, 10000, 29000, 29001, 45000, 300000)),
+        ("on FWD", 10000, (9999, 10000, 29000, 29001, 45000, 300000)),
+        ("between the limits", 20000, (0, 5000, 10000, 29000, 40000, 60000)),
+        ("on the safe aft limit", 29000, (5000, 10000, 29000, 29001, 40000)),
+        ("between safe aft and AFT", 29500, (5000, 10000, 28999, 29000, 29001)),
+        ("on AFT", 30000, (5000, 10000, 28900, 29000, 29001)),
+        ("behind AFT", 50000, (5000, 10000, 25000, 29000, 29001)),
+    ):
+        s = lax(fwd=10000, aft=30000, front_arm=arm)
+        for centre in centres:
+            printed(f"front arm {label}, centre {centre}", add((s,), level(a=centre)))
+
+
+def other_arms():
+    """Rear loads and water on each side of the limits."""
+    s = lax(fwd=10000, aft=30000, front_arm=-20000, greatest_rear=60000, rear_step=30000, capacity=60000)
+    s = s._replace(water_step=30000)
+    for rear in (-60000, 20000, 60000):
+        for water in (-80000, 20000, 80000):
+            label = f"rear arm {rear}, water arm {water}"
+            printed(label, add((level(a=40000),), s._replace(rear_arm=rear, water_arm=water)))
+
+
+# The ends of the ranges.
+
+
+def greatest():
+    """Each load, arm and weight at its greatest."""
+    loads = {"greatest_rear": MOST_SEAT, "rear_step": MOST_SEAT, "capacity": MOST, "water_step": MOST}
+    for label, total, front, rear, water, step in (
+        ("all aft", 1, MOST, MOST, MOST, 7),
+        ("all forward", 1, -MOST, -MOST, -MOST, 7),
+        ("by turns", 1, MOST, -MOST, MOST, 7),
+        ("1500 kg", 1500000, -MOST, MOST, -MOST, 1000),
+        ("2000 kg", MOST, -MOST, MOST, -MOST, 1000),
+    ):
+        s = lax(front_arm=front, rear_arm=rear, water_arm=water, front_step=step, **loads)
+        for a in (-MOST, 0, MOST):
+            printed(f"greatest, {label}, centre {a}", add((s,), level(p=total, a=a, n=0)))
+
+
+def narrowest():
+    for label, arm, fwd, aft in (
+        ("ahead", -MOST, -MOST, 1 - MOST),
+        ("behind", MOST, MOST - 1, MOST),
+        ("behind, on FWD", MOST - 1, MOST - 1, MOST),
+    ):
+        s = lax(fwd=fwd, aft=aft, front_arm=arm, front_step=7, water_arm=arm, capacity=MOST, water_step=1000000)
+        printed(f"limits a unit apart, {label}", add((level(p=1, a=arm, n=0),), s))
+
+
+def widest():
+    """All but 1 g taken out at one arm and put in at the other, by turns."""
+    for label, q, arm, b in (("greatest", MOST, MOST, MOST), ("least", 0, -MOST, 1)):
+        out, back = Change(-1999999, -arm, 0), Change(1999999, arm, 0)
+        far = lax(front_arm=-arm, rear_arm=-arm, greatest_rear=MOST_SEAT, rear_step=MOST_SEAT)
+        steps = [far, Weighing(1, MOST, q, arm, b, 0)] + 30 * [out, back]
+        printed(f"{label} moment, 1 g", played(FRESH, [*steps, out]))
+        printed(f"{label} moment, 64 entries", played(FRESH, [*steps, out, back, AGAIN]))
+
+
+# Gliders drawn by lot: the least of each number, and how many there are from there. The least load is drawn before the
+# front arm.
+
+LEAST_WEIGHING, WEIGHINGS = (1, 250000, 0, 10000, 400000, 100000), (1, 100000, 20000, 40000, 200000, 50000)
+LEAST_SHEET = (0, 25000, 380000, 450000, 220000, 0, -110000, 80000, 1, -60000, 0, 25000, -20000, 0, 30000)
+SHEETS = (20000, 20000, 70000, 90000, 60000, 40000, 80000, 40000, 900, 80000, 90000, 30000, 70000, 120000, 30000)
+FACTOR, PRIME = 48271, 2**31 - 1
+
+
+def drawn(seed, least, counts):
+    state, numbers = seed * FACTOR % PRIME, []
+    for low, count in zip(least, counts):
+        state = state * FACTOR % PRIME
+        numbers.append(low + state % count)
+    return numbers
+
+
+def by_lot():
+    rows = blank = 0
+    for seed in range(50):
+        w = Weighing(*drawn(2 * seed + 1, LEAST_WEIGHING, WEIGHINGS))
+        fwd, aft, dry, wet, nlp, least, arm, *rest = drawn(2 * seed + 2, LEAST_SHEET, SHEETS)
+        s = Sheet(fwd, aft, dry, wet, nlp, arm, least, *rest)
+        journal = printed(f"lot {seed}", played(FRESH, [w, s]))
+        _, _, more_rows, more_blank, _ = placard(journal, bytes(9216))
+        rows, blank = rows + more_rows, blank + more_blank
+    assert 40 < blank < rows - 40
+
+
+def report():
+    agreement()
+    worked()
+    buffers()
+    astir()
+    discus()
+    blanik()
+    twin_astir()
+    forty_changes()
+    lists()
+    full_lists()
+    front_steps()
+    weights()
+    limits_met()
+    ahead()
+    front_arms()
+    other_arms()
+    greatest()
+    narrowest()
+    widest()
+    by_lot()
