@@ -9,7 +9,7 @@
 --   Rows      isStep, keeps, breaksAt, row, inRange, misses, isBlank, rowCount
 --   Placard   text, textLength, blankCount
 --   Refusals  placardTooLong, placardNumber
---   Answers   over                                                  bytes written into a buffer: those behind them stay
+--   Answers   placardAnswer, over                                   over: bytes written into a buffer, those behind them stay
 -- Assumes nothing.
 use mathlib.Core.Path.{_≡_, refl, ap}
 use mathlib.Core.Bool.{true, false, not, _&&_}
@@ -42,7 +42,6 @@ use Rattle.file.proofs.read.Reads as read
 use Rattle.plate.proofs.placard.Reads as placard
 use Rattle.claim.specs.Calls.{Follows, none-yet, one-more}
 use Rattle.claim.specs.Endings as endings
-use Rattle.claim.specs.Endings.{Answered}
 use Rattle.planes.proofs.Rows as rows
 
 -- A list of calls as it runs: the calls in their order, the record that the last one returned, the number that each answered.
@@ -69,7 +68,9 @@ WhereStand calls P = (s : Sheet) (b : Balance) → sheetOf (journal calls) ≡ s
 pub record Demand3 (calls : List Call) (answers lent : List ℕ) (answer : Placard) (left : List ℕ) : Type 0 where
   -- each call of the list is accepted, or refused with its number, as the journal has it
   pub each-call : answers ≡ numbers calls
-  -- the placard is given exactly when a weighing and a sheet stand and the buffer holds it
+  -- the answer and the buffer's final bytes, refusals as well, are those worked out from the journal and the buffer as lent
+  pub worked-out : (answer ≡ placardAnswer (journal calls) lent .0) × (left ≡ placardAnswer (journal calls) lent .1)
+  -- in particular: the placard is given exactly when a weighing and a sheet stand and the buffer holds it
   pub given-exactly : eqb (answer .number) 0 ≡ (weighingStands (journal calls) && sheetStands (journal calls) && not (placardTooLong (sheetOf (journal calls)) (length lent)))
   -- else it is refused with the journal's number, every other value being 0, and the buffer is as lent
   pub refused-else : eqb (answer .number) 0 ≡ false → (answer ≡ record { number = placardNumber (journal calls) (length lent); bytes = 0; rows = 0; blank = 0 }) × (left ≡ lent)
@@ -103,9 +104,12 @@ pub demand-3 : {calls : List Call} {r : Record} {answers : List ℕ} → Trace c
 demand-3 {calls} t κs o o′ a call =
     let f = follows t in
     let j = journal calls in
-    let says : Answered j (now o) a (now o′) = rw (f .list) at (endings.says _ (now o) a (now o′) (call .0) (call .1)) in
+    let first : a ≡ placardAnswer j (now o) .0 = rw (f .list) at (call .0) in
+    let second : now o′ ≡ placardAnswer j (now o) .1 = rw (f .list) at (call .1) in
+    let says = endings.says j (now o) a (now o′) first second in
     record {
       each-call = f .numbers;
+      worked-out = (first, second);
       given-exactly = says .exactly;
       refused-else = says .else;
       bytes = λ s b e w n. ap (λ (x : Placard). x .bytes) (says .whole s b e w n .0);

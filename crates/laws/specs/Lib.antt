@@ -5,5 +5,6 @@ pub mod Written
 pub mod Options
 pub mod Slopes
 pub mod Division
+pub mod Equal
 pub mod Z
 pub mod Floor

@@ -1,7 +1,7 @@
 -- Options by a test, and what an answer of some says of where it came from, by cases. Assumes nothing.
 use mathlib.Core.Path.{_≡_, refl}
 use mathlib.Core.Bool.{Bool, true, false, cond, _&&_}
-use mathlib.Core.Option.{Option, none, some, Option·map, Option·some-injective}
+use mathlib.Core.Option.{Option, none, some, Option·map, Option·some-injective, orElse}
 
 -- ---- by a test
 
@@ -28,3 +28,21 @@ cond-kept false o x e = cc
 
 pub cond-found : {A : Type 0} (t : Bool) (x y : A) → cond t (some x) none ≡ some y → x ≡ y
 cond-found t x y e = Option·some-injective x y (cond-kept t (some x) y e)
+
+-- ---- one or else another
+
+pub or-none : {A : Type 0} (o : Option A) → orElse o none ≡ o
+unfolding orElse
+or-none none = refl
+or-none (some x) = refl
+
+pub or-assoc : {A : Type 0} (o p q : Option A) → orElse (orElse o p) q ≡ orElse o (orElse p q)
+unfolding orElse
+or-assoc none p q = refl
+or-assoc (some x) p q = refl
+
+-- what was found is of the one or of the other
+pub or-either : {A : Type 0} (o p : Option A) (x : A) (B : Type 0) → orElse o p ≡ some x → (o ≡ some x → B) → (p ≡ some x → B) → B
+unfolding orElse
+or-either none p x B e f g = g e
+or-either (some y) p x B e f g = f e

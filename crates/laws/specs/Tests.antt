@@ -1,6 +1,6 @@
 -- Tests as Bools: what `&&`, `||` and `not` say, both ways, and orders as tests. Assumes nothing.
 use mathlib.Core.Path.{_≡_, refl, sym, _∙_}
-use mathlib.Core.Bool.{Bool, true, false, not, _&&_, _||_}
+use mathlib.Core.Bool.{Bool, true, false, not, _&&_, _||_, and-false, true≢false}
 use Prim.Native.Nat.{ℕ, _+_, _-_, _≤_}
 use native.Mathlib.Decide.{decLe}
 use native.Mathlib.Omega.{arith}
@@ -43,6 +43,17 @@ pub right-fails : (a b : Bool) → b ≡ false → (a && b) ≡ false
 right-fails true b e = e
 right-fails false b e = refl
 
+-- a test of one only where the other passes
+pub and-by : (a b : Bool) → elim a as (λ _. Bool) [ true ↦ b | false ↦ false ] ≡ (a && b)
+and-by true b = refl
+and-by false b = refl
+
+-- four of them, the middle two the other way round
+pub and-swapped : (a b c d : Bool) → ((a && b) && (c && d)) ≡ ((a && c) && (b && d))
+and-swapped true true c d = refl
+and-swapped true false c d = sym (and-false c)
+and-swapped false b c d = refl
+
 -- neither passes
 pub neither : (a b : Bool) → a ≡ false → b ≡ false → (a || b) ≡ false
 neither true b e h = e
@@ -64,6 +75,15 @@ turned false e = sym e
 pub turned-no : (a : Bool) → a ≡ false → not a ≡ true
 turned-no true e = sym e
 turned-no false e = refl
+
+-- not both ways
+pub clash : (b : Bool) → b ≡ true → b ≡ false → ⊥
+clash b t f = true≢false (sym t ∙ f)
+
+pub and-not : (a b : Bool) → ((a && b) && not b) ≡ false
+and-not true true = refl
+and-not true false = refl
+and-not false b = refl
 
 -- r answers the test t, and was turned
 pub failed : {r t : Bool} → r ≡ t → not r ≡ true → t ≡ false
@@ -94,6 +114,10 @@ ltb-not a b =
       | yes k ↦ simp (le-ltb a b k, le-leb b a k)
       | no k ↦ simp (lt-ltb a b (omega arith), lt-leb b a (omega arith))
     ]
+
+-- by other numbers
+pub leb-by : {t : Bool} (m n k l : ℕ) → m ≡ k → n ≡ l → leb k l ≡ t → leb m n ≡ t
+leb-by m n k l e f h = rw (e, f) h
 
 -- one that stands w behind another
 pub leb-behind : (w t n : ℕ) → w ≤ n → leb t (n - w) ≡ leb (w + t) n

@@ -5,6 +5,7 @@ use Prim.Native.Nat.{ℕ, _+_, _*_}
 use native.Mathlib.Nat.{add-zero}
 use native.Mathlib.Omega.{arith}
 use lib.Dec.{leb, eqb}
+use Rattle.laws.specs.Tests.{leb-by}
 use Rattle.laws.specs.Z.{is-nat, is-sub, is-sides}
 use Rattle.paper.specs.declared.Sheet.{Sheet}
 use Rattle.paper.specs.Rows.{keepsAt}
@@ -47,10 +48,6 @@ pub wider : (s : Side) → Within 1 s → Within 20 s
 wider s w = record { base = omega (arith, w .base); front = omega (arith, w .front); water = omega (arith, w .water) }
 
 -- ---- the five lines of a sheet and a balance
-
--- the same order by other ends
-pub moved : {t : Bool} (m n k l : ℕ) → m ≡ k → n ≡ l → leb k l ≡ t → leb m n ≡ t
-moved m n k l e f h = rw (e, f) h
 
 unless : {t : Bool} (none : Bool) (n m : ℕ) → (none || leb m n) ≡ t → (none || leb m (n + 0)) ≡ t
 unless none n m h = rw (add-zero n) h
@@ -100,8 +97,8 @@ module _ (s : Sheet) (b : Balance) (a : Arms) (o : ArmsOf s a) where
     keeps-limits x y ex ey t₁ t₂ t₃ t₄ t₅ e₁ e₂ e₃ e₄ e₅ =
         let m = weight + p + v in
         keeps-tests s (plain b) parts parts-of rear p v t₁ t₂ t₃ t₄ t₅
-        (moved (grams parts rear p 0) (s .dry + 0) (weight + p + v * 0) (s .dry) (omega arith) (omega arith) e₁)
-        (moved (grams parts rear p v) (s .wet + 0) (weight + p + v * 1) (s .wet) (omega arith) (omega arith) e₂)
+        (leb-by (grams parts rear p 0) (s .dry + 0) (weight + p + v * 0) (s .dry) (omega arith) (omega arith) e₁)
+        (leb-by (grams parts rear p v) (s .wet + 0) (weight + p + v * 1) (s .wet) (omega arith) (omega arith) e₂)
         (unless (eqb (s .nlp) 0) (s .nlp) (b .nonlifting + rear + p) e₃)
-        (moved (fwdLow parts rear p v) (fwdHigh parts rear p v) (y + a .fwd .up * m) (x + a .fwd .down * m) (omega arith) (omega arith) e₄)
-        (moved (aftLow parts rear p v) (aftHigh parts rear p v) (20 * x + (19 * a .aft .down + a .fwd .down) * m) (20 * y + (19 * a .aft .up + a .fwd .up) * m) (omega arith) (omega arith) e₅)
+        (leb-by (fwdLow parts rear p v) (fwdHigh parts rear p v) (y + a .fwd .up * m) (x + a .fwd .down * m) (omega arith) (omega arith) e₄)
+        (leb-by (aftLow parts rear p v) (aftHigh parts rear p v) (20 * x + (19 * a .aft .down + a .fwd .down) * m) (20 * y + (19 * a .aft .up + a .fwd .up) * m) (omega arith) (omega arith) e₅)

@@ -1,3 +1,3 @@
--- What the proofs share: how long a line and its fields are, one byte more of a field, and fields one behind the other.
+-- What the proofs share: how long a line and its fields are, and one byte more of a field.
 pub mod Length
 pub mod Turns

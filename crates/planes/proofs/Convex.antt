@@ -1,11 +1,11 @@
 -- The limits grow evenly: what holds with no water and with all of it holds with every part, and what holds at two front
 -- loads holds at each between them. Each line is a half-plane. Assumes nothing.
 use mathlib.Core.Path.{_≡_, refl, sym, ap, _∙_, fun-ext}
-use mathlib.Core.Bool.{Bool, true, false, _&&_, and-false}
+use mathlib.Core.Bool.{Bool, true, _&&_}
 use mathlib.Core.List.{List, [], _∷_}
 use Prim.Native.Nat.{ℕ, _+_, _-_, _*_, _≤_}
 use native.Mathlib.Omega.{arith}
-use Rattle.laws.specs.Tests.{both, left, right}
+use Rattle.laws.specs.Tests.{both, left, right, and-swapped}
 use Rattle.laws.specs.Slopes.{between}
 use Rattle.paper.specs.declared.Sheet.{Sheet}
 use Rattle.paper.specs.Record.{Balance}
@@ -17,17 +17,12 @@ use Rattle.planes.proofs.Water.{keeps-plane, plane-kept, ends-decide, a
 
 -- ---- the water
 
-swapped : (a b c d : Bool) → ((a && b) && (c && d)) ≡ ((a && c) && (b && d))
-swapped true true c d = refl
-swapped true false c d = sym (and-false c)
-swapped false b c d = refl
-
 both-planes : (ls : List HalfPlane) (p w : ℕ) → upTo (allHold ls p) w ≡ (allHold ls p 0 && allHold ls p w)
 unfolding allHold
 both-planes [] p w = all-hold-none p w
 both-planes (l ∷ ls) p w =
     all-hold-more l ls p w
-    ∙ rw (ends-decide l p w, both-planes ls p w) (swapped (holds l p 0) (holds l p w) (allHold ls p 0) (allHold ls p w))
+    ∙ rw (ends-decide l p w, both-planes ls p w) (and-swapped (holds l p 0) (holds l p w) (allHold ls p 0) (allHold ls p w))
 
 -- none of the water and all of it decide
 pub both-ends : (s : Sheet) (b : Balance) (r p w : ℕ) → upTo (keepsAt s b r p) w ≡ (keepsAt s b r p 0 && keepsAt s b r p w)

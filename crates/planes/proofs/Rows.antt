@@ -6,7 +6,7 @@ use mathlib.Core.List.{List, [], _∷_}
 use Prim.Native.Nat.{ℕ, _%_, _≤_}
 use lib.Dec.{leb, eqb}
 use borrow.Author.Tests.{leb-true}
-use Rattle.laws.specs.Tests.{same, both, left, right, right-fails, in-span, span-lo, span-hi}
+use Rattle.laws.specs.Tests.{same, both, left, right, right-fails, in-span, span-lo, span-hi, and-by, and-not, clash}
 use Rattle.paper.specs.declared.Sheet.{Sheet}
 use Rattle.paper.specs.declared.Row.{Row}
 use Rattle.paper.specs.declared.Row.the-variants.{Range, Blank}
@@ -17,13 +17,9 @@ use Rattle.planes.proofs.Convex.{convex}
 
 -- ---- a step that keeps every limit
 
-kept-both : (a b : Bool) → elim a as (λ _. Bool) [ true ↦ b | false ↦ false ] ≡ (a && b)
-kept-both true b = refl
-kept-both false b = refl
-
 pub keeps-is : (s : Sheet) (b : Balance) (r w p : ℕ) → keeps s b r w p ≡ (isStep s p && upTo (keepsAt s b r p) w)
 unfolding keeps
-keeps-is s b r w p = kept-both (isStep s p) (upTo (keepsAt s b r p) w)
+keeps-is s b r w p = and-by (isStep s p) (upTo (keepsAt s b r p) w)
 
 module _ (s : Sheet) (b : Balance) (r w p : ℕ) (k : keeps s b r w p ≡ true) where
   pub is-step : isStep s p ≡ true
@@ -55,7 +51,7 @@ module _ (s : Sheet) (b : Balance) (r w p : ℕ) where
       (λ k. between-ends lo hi (ends .0) (ends .1) (left (isStep s p) (inRange p (Range lo hi)) k) (right (isStep s p) (inRange p (Range lo hi)) k)))
   by-outcome (a-blank e none) =
       rw e (same (keeps s b r w p) (isStep s p && false)
-      (λ k. absurd (true≢false (sym k ∙ none p (step-most s b r w p k))))
+      (λ k. absurd (clash (keeps s b r w p) k (none p (step-most s b r w p k))))
       (λ k. absurd (true≢false (sym k ∙ right-fails (isStep s p) false refl))))
 
 -- the steps that keep every limit are exactly the steps in the range that the row prints
@@ -81,16 +77,11 @@ pub none-breaks : (s : Sheet) (b : Balance) (r w p v : ℕ) → isStep s p ≡ t
 none-breaks s b r w p v step range h =
     breaks-none s b r p v (keeps-at s b r w p (kept-steps s b r w p ∙ both (isStep s p) (inRange p (row s b r w)) step range) v h)
 
-not-and : (a b : Bool) → ((a && b) && not b) ≡ false
-not-and true true = refl
-not-and true false = refl
-not-and false b = refl
-
 -- no row misses a step that keeps every limit
 pub none-missed : (s : Sheet) (b : Balance) (r w p : ℕ) → misses s b r w p ≡ false
 unfolding misses
 none-missed s b r w p =
-    ap (λ (k : Bool). k && not (inRange p (row s b r w))) (kept-steps s b r w p) ∙ not-and (isStep s p) (inRange p (row s b r w))
+    ap (λ (k : Bool). k && not (inRange p (row s b r w))) (kept-steps s b r w p) ∙ and-not (isStep s p) (inRange p (row s b r w))
 
 -- a row is blank where no front load keeps every limit, and only there
 blank-keeps : (x : Row) (p : ℕ) → isBlank x ≡ true → inRange p x ≡ false

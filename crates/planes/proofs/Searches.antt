@@ -8,7 +8,7 @@ use mathlib.Core.Option.{none, some}
 use native.Mathlib.Nat.{eq-or-lt-of-le}
 use native.Mathlib.Decide.{decLe}
 use native.Mathlib.Omega.{arith}
-use Rattle.laws.specs.Tests.{both, left, right}
+use Rattle.laws.specs.Tests.{both, left, right, and-by, clash}
 use Rattle.paper.specs.declared.Row.{Row}
 use Rattle.paper.specs.declared.Row.the-variants.{Range, Blank}
 use Rattle.paper.specs.Rows.{upTo, smallest, largest, rowOf, isBlank}
@@ -17,11 +17,7 @@ use Rattle.paper.specs.Rows.{upTo, smallest, largest, rowOf, isBlank}
 
 pub up-to-more : (q : ℕ → Bool) (n : ℕ) → upTo q (suc n) ≡ (q (suc n) && upTo q n)
 unfolding upTo
-up-to-more q n = step (q (suc n)) (upTo q n)
-  where
-    step : (a b : Bool) → elim a as (λ _. Bool) [ true ↦ b | false ↦ false ] ≡ (a && b)
-    step true b = refl
-    step false b = refl
+up-to-more q n = and-by (q (suc n)) (upTo q n)
 
 pub up-to : (q : ℕ → Bool) (n : ℕ) → ((v : ℕ) → v ≤ n → q v ≡ true) → upTo q n ≡ true
 unfolding upTo
@@ -102,9 +98,6 @@ NonePasses q n = (j : ℕ) → j ≤ n → q j ≡ false
 pub data Outcome (q : ℕ → Bool) (n : ℕ) : Type 0 where
   a-range : (lo hi : ℕ) → rowOf q n ≡ Range lo hi → Ends q n lo hi → Outcome q n
   a-blank : rowOf q n ≡ Blank → NonePasses q n → Outcome q n
-
-clash : (b : Bool) → b ≡ true → b ≡ false → ⊥
-clash b t f = true≢false (sym t ∙ f)
 
 pub outcome : (q : ℕ → Bool) (n : ℕ) → Outcome q n
 unfolding rowOf

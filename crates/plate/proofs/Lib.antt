@@ -1,4 +1,4 @@
--- What the proofs share: the sheet in force, lists over 0, 1, .. n - 1, the rows by their number, the lines in the buffer.
+-- What the proofs share: the sheet in force, the rows by their number, the lines in the buffer, and what the call answers.
 pub mod Sheets
 pub mod Rows
 pub mod Buffer

@@ -1,8 +1,8 @@
 -- The sheet in force of a list with one entry more, and that it was accepted: by recursion on the list. Assumes nothing.
-use mathlib.Core.Path.{_≡_, refl, sym, ap, _∙_}
+use mathlib.Core.Path.{_≡_, sym, ap, _∙_}
 use mathlib.Core.Bool.{true}
 use mathlib.Core.List.{List, [], _∷_, _++_, map}
-use mathlib.Core.Option.{Option, none, some, orElse, Option·some-injective}
+use mathlib.Core.Option.{Option, some, orElse, Option·some-injective}
 use Prim.Native.Nat.{ℕ, _+_, _<_}
 use native.Mathlib.Omega.{arith}
 use lib.Dec.{eqb}
@@ -10,6 +10,7 @@ use lib.ListN.{length, take, getD}
 use borrow.Author.Tests.{eqb-true}
 use Rattle.laws.specs.Tests.{left, right}
 use Rattle.laws.specs.Lists.{map-take-more}
+use Rattle.laws.specs.Options.{or-none, or-assoc, or-either}
 use Rattle.paper.specs.declared.Sheet.{Sheet}
 use Rattle.paper.specs.declared.Entry.{Entry}
 use Rattle.paper.specs.declared.Entry.the-variants as entry
@@ -20,16 +21,6 @@ use Rattle.record.specs.declared.Slot.{Slot}
 use Rattle.record.specs.Held.{entryIn}
 
 -- ---- one entry more
-
-or-none : (o : Option Sheet) → orElse o none ≡ o
-unfolding orElse
-or-none none = refl
-or-none (some s) = refl
-
-or-assoc : (o p q : Option Sheet) → orElse (orElse o p) q ≡ orElse o (orElse p q)
-unfolding orElse
-or-assoc none p q = refl
-or-assoc (some s) p q = refl
 
 sheet-more : (es : List Entry) (e : Entry) → sheetOf (es ++ e ∷ []) ≡ orElse (asSheet e) (sheetOf es)
 unfolding sheetOf orElse
@@ -53,18 +44,13 @@ one-sheet es (entry.Sheet t) s e n =
     sym (ap (λ (u : Sheet). firstNumber (sheetFaults u)) (Option·some-injective t s e)) ∙ no-other 9 (full es) _ (omega arith) n
 one-sheet es (entry.Change x) s e n = cc
 
-either : (o p : Option Sheet) (s : Sheet) (A : Type 0) → orElse o p ≡ some s → (o ≡ some s → A) → (p ≡ some s → A) → A
-unfolding orElse
-either none p s A e f g = g e
-either (some t) p s A e f g = f e
-
 sheet-after : (es fs : List Entry) (s : Sheet) → acceptedAfter es fs ≡ true → sheetOf fs ≡ some s → firstNumber (sheetFaults s) ≡ 0
 unfolding acceptedAfter sheetOf
 sheet-after es [] s h e = cc
 sheet-after es (f ∷ fs) s h e =
     let n = eqb-true (entryNumber es f) 0 (left (eqb (entryNumber es f) 0) (acceptedAfter (es ++ f ∷ []) fs) h) in
     let more = right (eqb (entryNumber es f) 0) (acceptedAfter (es ++ f ∷ []) fs) h in
-    either (sheetOf fs) (asSheet f) s (firstNumber (sheetFaults s) ≡ 0) e (λ k. sheet-after (es ++ f ∷ []) fs s more k) (λ k. one-sheet es f s k n)
+    or-either (sheetOf fs) (asSheet f) s (firstNumber (sheetFaults s) ≡ 0) e (λ k. sheet-after (es ++ f ∷ []) fs s more k) (λ k. one-sheet es f s k n)
 
 pub sheet-accepted : (es : List Entry) (s : Sheet) → accepted es ≡ true → sheetOf es ≡ some s → firstNumber (sheetFaults s) ≡ 0
 unfolding accepted

@@ -1,2 +1,2 @@
--- What the proofs of the solver share.
+-- What the proofs share: spans narrowed, and the row of the multiples in one.
 pub mod Spans

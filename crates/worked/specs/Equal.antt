@@ -1,26 +1,12 @@
--- Tests that two integers, rows, lines of a placard or lists are equal, and that what passes is. Assumes nothing.
-use mathlib.Core.Path.{_≡_, refl, ap}
+-- Tests that two rows or two lines of a placard are equal, and that what passes is. Assumes nothing.
+use mathlib.Core.Path.{_≡_, refl}
 use mathlib.Core.Bool.{Bool, true, false, _&&_}
-use mathlib.Core.List.{List, [], _∷_}
 use Prim.Native.Nat.{ℕ}
 use lib.Dec.{eqb}
-use lib.IntN.{ℤ, pos, negsuc}
 use borrow.Author.Tests.{eqb-true}
 use Rattle.laws.specs.Tests.{left, right}
 use Rattle.paper.specs.declared.Row.{Row}
 use Rattle.paper.specs.declared.Row.the-variants.{Range, Blank}
-
-abbrev pub eqZ : ℤ → ℤ → Bool
-eqZ (pos m) (pos n) = eqb m n
-eqZ (pos m) (negsuc n) = false
-eqZ (negsuc m) (pos n) = false
-eqZ (negsuc m) (negsuc n) = eqb m n
-
-pub same-Z : (x y : ℤ) → eqZ x y ≡ true → x ≡ y
-same-Z (pos m) (pos n) e = ap pos (eqb-true m n e)
-same-Z (pos m) (negsuc n) e = cc
-same-Z (negsuc m) (pos n) e = cc
-same-Z (negsuc m) (negsuc n) e = ap negsuc (eqb-true m n e)
 
 abbrev pub eqRow : Row → Row → Bool
 eqRow (Range a b) (Range c d) = eqb a c && eqb b d
@@ -50,18 +36,3 @@ same-line (r, w, x) (r′, w′, x′) e =
       eqb-true w w′ (left (eqb w w′) (eqRow x x′) f),
       same-row x x′ (right (eqb w w′) (eqRow x x′) f),
     )
-
--- two lists, by a test of their elements
-module _ {A : Type 0} (t : A → A → Bool) where
-  abbrev pub eqList : List A → List A → Bool
-  eqList [] [] = true
-  eqList [] (y ∷ ys) = false
-  eqList (x ∷ xs) [] = false
-  eqList (x ∷ xs) (y ∷ ys) = t x y && eqList xs ys
-
-  pub same-list : ((x y : A) → t x y ≡ true → x ≡ y) → (xs ys : List A) → eqList xs ys ≡ true → xs ≡ ys
-  same-list h [] [] e = refl
-  same-list h [] (y ∷ ys) e = cc
-  same-list h (x ∷ xs) [] e = cc
-  same-list h (x ∷ xs) (y ∷ ys) e =
-      rw (h x y (left (t x y) (eqList xs ys) e), same-list h xs ys (right (t x y) (eqList xs ys) e))

@@ -11,6 +11,7 @@ use lib.Dec.{leb, eqb}
 use lib.IntN.{ℤ, pos}
 use borrow.Author.Tests.{eqb-true, leb-true, not-true}
 use Rattle.laws.specs.Tests.{isnt, left, right}
+use Rattle.laws.specs.Equal.{eqZ, same-Z, eqList, same-list}
 use Rattle.laws.specs.Lists.{Each}
 use Rattle.paper.specs.declared.Weighing.{Weighing}
 use Rattle.paper.specs.declared.Sheet.{Sheet}
@@ -23,7 +24,7 @@ use Rattle.paper.specs.Placard.{feed, digits, kilograms, ends, line, text}
 use Rattle.paper.specs.File.{bytesOf, fieldBytes, layoutOf, fieldsBytes, entryBytes, bodyBytes, fileBytes}
 use Rattle.planes.proofs.Convex.{convex}
 use Rattle.worked.specs.Plates.{minus, weighing, blanik, G, H, I, J}
-use Rattle.worked.specs.Equal.{eqZ, same-Z, eqRow, same-row, Line, eqLine, same-line, eqList, same-list}
+use Rattle.worked.specs.Equal.{eqRow, same-row, Line, eqLine, same-line}
 use Rattle.worked.specs.Search.{rowBy, row-is}
 
 -- ---- the table
