@@ -5,7 +5,6 @@ use mathlib.Core.Path.{_≡_, ap, _∙_}
 use Prim.Native.Nat.{ℕ, _*_, _/_, _%_, _≤_}
 use native.Mathlib.Omega.{arith}
 use Rattle.paper.specs.declared.Sheet.{Sheet}
-use Rattle.paper.specs.Placard.{line}
 use Rattle.sheet.proofs.Accepted.{accepted-sheet}
 use Rattle.balance.specs.Balance.{plain}
 use Rattle.laws.specs.Written.{written, written-part}
