@@ -1,6 +1,6 @@
 -- Numbers as bytes, the highest first: the bytes of a number spell it, and the number that some bytes spell has just them.
 -- Assumes nothing.
-use mathlib.Core.Path.{_≡_, refl, ap, sym, _∙_}
+use mathlib.Core.Path.{_≡_, refl, sym, _∙_}
 use mathlib.Core.Bool.{true}
 use mathlib.Core.List.{List, [], _∷_, _++_}
 use Prim.Native.Nat.{ℕ, zero, suc, _+_, _*_, _/_, _%_, _^_, _<_, suc-le-suc}
@@ -12,6 +12,7 @@ use lib.Arith.{digits-lt, digits-div, mod-mul}
 use lib.Dec.{ltb}
 use lib.ListN.{length, getD, take, drop}
 use lib.Pow.{areBytes}
+use Rattle.laws.specs.Spelled.{Spelling, length-spelled}
 use Rattle.laws.specs.Lists.{length-more}
 use Rattle.laws.specs.Tests.{both, left, right}
 use Rattle.paper.specs.File.{bytesOf, numberOf}
@@ -45,10 +46,13 @@ bytes-at (x ∷ xs) h =
 pow-pos : (k : ℕ) → 0 < 256 ^ k
 pow-pos k = one-le-pow k 256 (zero-lt-suc 255)
 
-pub length-bytes : (k n : ℕ) → length (bytesOf k n) ≡ k
+-- they are the digits in base 256
+pub bytes : Spelling bytesOf (λ (x : ℕ). x) 256
 unfolding bytesOf
-length-bytes zero n = refl
-length-bytes (suc k) n = ap suc (length-bytes k n)
+bytes = record { none = λ n. refl; more = λ k n. refl }
+
+pub length-bytes : (k n : ℕ) → length (bytesOf k n) ≡ k
+length-bytes = length-spelled bytes
 
 pub are-bytes : (k n : ℕ) → areBytes (bytesOf k n) ≡ true
 unfolding bytesOf

@@ -2,6 +2,7 @@
 pub mod Tests
 pub mod Lists
 pub mod Written
+pub mod Spelled
 pub mod Options
 pub mod Slopes
 pub mod Division

@@ -1,17 +1,17 @@
 -- How long a line and its fields are, whatever they say. Assumes nothing.
-use mathlib.Core.Path.{_≡_, refl, ap}
+use mathlib.Core.Path.{_≡_, refl}
 use mathlib.Core.List.{[], _∷_, _++_}
-use Prim.Native.Nat.{ℕ, zero, suc, _/_, _%_}
+use Prim.Native.Nat.{ℕ, _/_, _%_}
 use native.Mathlib.Omega.{arith}
 use lib.ListN.{length, length-append}
+use Rattle.laws.specs.Spelled.{length-spelled}
 use Rattle.paper.specs.declared.Row.{Row}
 use Rattle.paper.specs.declared.Row.the-variants.{Range, Blank}
 use Rattle.paper.specs.Placard.{space, feed, point, digits, kilograms, ends, line}
+use Rattle.line.proofs.Turns.{decimal}
 
 pub length-digits : (k n : ℕ) → length (digits k n) ≡ k
-unfolding digits
-length-digits zero n = refl
-length-digits (suc k) n = ap suc (length-digits k n)
+length-digits = length-spelled decimal
 
 pub length-kilograms : (n : ℕ) → length (kilograms n) ≡ 8
 unfolding kilograms

@@ -1,3 +1,3 @@
--- What the proofs share: one byte more of a number, and two's complement.
+-- What the proofs share: one byte more of a number that is read, and two's complement.
 pub mod Turns
 pub mod Signs

@@ -1,0 +1,53 @@
+-- A number spelled in a base, the highest digit first, and written into a list from the last digit up: one turn of the loop
+-- that does it. Assumes nothing.
+use mathlib.Core.Path.{_≡_, ap, _∙_}
+use mathlib.Core.List.{List, [], _∷_}
+use Prim.Native.Nat.{ℕ, zero, suc, _+_, _-_, _/_, _%_, _^_, _≤_, _<_}
+use native.Mathlib.Nat.{pow-zero, pow-suc, div-div-eq-div-mul, div-one}
+use native.Mathlib.Omega.{arith}
+use lib.ListN.{length, set}
+use Rattle.laws.specs.Written.{written, written-none, length-written, written-front}
+
+-- what is left of a number when its last digits, those from l on of k, are written
+pub rest-none : (base k n : ℕ) → n ≡ n / base ^ (k - k)
+rest-none base k n = let e : k - k ≡ 0 = omega arith in rw (e, pow-zero base, div-one n)
+
+pub rest-more : (base l k n r : ℕ) → 0 < l → l ≤ k → r ≡ n / base ^ (k - l) → r / base ≡ n / base ^ (k - (l - 1))
+rest-more base l k n r h m q =
+    let e : k - (l - 1) ≡ suc (k - l) = omega arith in
+    rw (q, e, pow-suc base (k - l), div-div-eq-div-mul n (base ^ (k - l)) base)
+
+-- the last k digits of n, each by a digit's own element
+pub record Spelling (spell : ℕ → ℕ → List ℕ) (digit : ℕ → ℕ) (base : ℕ) : Type 0 where
+  pub none : (n : ℕ) → spell 0 n ≡ []
+  pub more : (k n : ℕ) → spell (suc k) n ≡ digit (n / base ^ k % base) ∷ spell k n
+
+module _ {spell : ℕ → ℕ → List ℕ} {digit : ℕ → ℕ} {base : ℕ} (sp : Spelling spell digit base) where
+  pub length-spelled : (k n : ℕ) → length (spell k n) ≡ k
+  length-spelled zero n = ap length (sp .none n)
+  length-spelled (suc k) n = ap length (sp .more k n) ∙ ap suc (length-spelled k n)
+
+  module _ (s : List ℕ) (at k n : ℕ) where
+    -- the digits from l on, written at their place
+    abbrev pub putFrom : ℕ → List ℕ
+    putFrom l = written s (at + l) (spell (k - l) n)
+
+    pub put-none : s ≡ putFrom k
+    put-none = let e : k - k ≡ 0 = omega arith in rw (e, sp .none n, written-none s (at + k))
+
+    pub put-length : (l : ℕ) → at + k ≤ length s → l ≤ k → length (putFrom l) ≡ length s
+    put-length l h m = length-written s (at + l) (spell (k - l) n) (rw (length-spelled (k - l) n) (omega arith))
+
+    -- one more digit
+    pub put-more : (l r : ℕ) (out : List ℕ) → at + k ≤ length s → 0 < l → l ≤ k → r ≡ n / base ^ (k - l) → out ≡ putFrom l → set out (at + (l - 1)) (digit (r % base)) ≡ putFrom (l - 1)
+    put-more l r out h p m q o =
+        let e : k - (l - 1) ≡ suc (k - l) = omega arith in
+        let f : at + l ≡ suc (at + (l - 1)) = omega arith in
+        rw (q, o, e, f, sp .more (k - l) n)
+        (written-front s (at + (l - 1)) (digit (n / base ^ (k - l) % base)) (spell (k - l) n) (rw (length-spelled (k - l) n) (omega arith)))
+
+    pub put-all : (l : ℕ) → l ≡ 0 → putFrom l ≡ written s at (spell k n)
+    put-all l e =
+        let f : at + 0 ≡ at = omega arith in
+        let g : k - 0 ≡ k = omega arith in
+        rw (e, f, g)
