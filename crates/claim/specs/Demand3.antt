@@ -60,7 +60,7 @@ pub data Trace : List Call → Record → List ℕ → Type 0 where
       → (κs : _) (i i′ : RefT (List ℕ)) (k : Kept) → read.Post κs (r, (i, tt)) k (r, (i′, tt)) → Trace (calls ++ journal.read (now i) ∷ []) (k .log) (answers ++ k .number ∷ [])
 
 -- what holds of the sheet in force and of the balance, where a list of calls leaves both standing
-abbrev WhereStand : List Call → (Sheet → Balance → Type 0) → Type 0
+abbrev pub WhereStand : List Call → (Sheet → Balance → Type 0) → Type 0
 WhereStand calls P = (s : Sheet) (b : Balance) → sheetOf (journal calls) ≡ some s → balanceOf (journal calls) ≡ some b → P s b
 
 -- The demand, a field for each clause: of the calls, the numbers that they answered, the buffer as lent, the placard call's
