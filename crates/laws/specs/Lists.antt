@@ -1,14 +1,14 @@
 -- Lists: `map` over `++`, a function taken back, the last element apart, one more element of a part, a list by its
--- elements, and what holds of each of them. Assumes nothing.
-use mathlib.Core.Path.{_≡_, refl, ap, _∙_}
+-- elements, what holds of each of them, and equal lists part by part. Assumes nothing.
+use mathlib.Core.Path.{_≡_, refl, sym, ap, _∙_}
 use mathlib.Core.Bool.{Bool, true, _&&_}
 use mathlib.Core.List.{List, [], _∷_, _++_, map}
 use Prim.Native.Nat.{ℕ, zero, suc, _+_, _≤_, _<_}
 use native.Mathlib.Numerals.{add-one}
 use native.Mathlib.Omega.{arith}
 use lib.Dec.{leb}
-use lib.ListN.{length, take, getD, length-append}
-use lib.Seq.{take-suc}
+use lib.ListN.{length, take, drop, getD, length-append}
+use lib.Seq.{take-suc, take-at, drop-at}
 use borrow.Author.Tests.{leb-true}
 use Rattle.laws.specs.Tests.{left, right}
 
@@ -60,3 +60,10 @@ pub each-at : {A : Type 0} (P : A → Type 0) (xs : List A) (i : ℕ) (d : A) �
 each-at P [] i d h e = absurd (omega arith)
 each-at P (x ∷ xs) zero d h e = e .0
 each-at P (x ∷ xs) (suc i) d h e = each-at P xs i d (omega arith) (e .1)
+
+-- two lists that are equal and whose first parts are equally long are equal part by part
+pub parts-same : {A : Type 0} (k : ℕ) (xs ys zs ws : List A) → length xs ≡ k → length ys ≡ k → xs ++ zs ≡ ys ++ ws → (xs ≡ ys) × (zs ≡ ws)
+parts-same k xs ys zs ws e f h = (
+  sym (take-at xs zs k e) ∙ ap (take k) h ∙ take-at ys ws k f,
+  sym (drop-at xs zs k e) ∙ ap (drop k) h ∙ drop-at ys ws k f,
+)

@@ -1,10 +1,11 @@
 -- A number spelled in a base, the highest digit first, and written into a list from the last digit up: one turn of the loop
 -- that does it. Assumes nothing.
-use mathlib.Core.Path.{_≡_, ap, _∙_}
-use mathlib.Core.List.{List, [], _∷_}
+use mathlib.Core.Path.{_≡_, sym, ap, _∙_}
+use mathlib.Core.List.{List, [], _∷_, head-eq-of-cons-eq, tail-eq-of-cons-eq}
 use Prim.Native.Nat.{ℕ, zero, suc, _+_, _-_, _/_, _%_, _^_, _≤_, _<_}
-use native.Mathlib.Nat.{pow-zero, pow-suc, div-div-eq-div-mul, div-one}
+use native.Mathlib.Nat.{pow-zero, pow-suc, pow-succ', one-le-pow, div-div-eq-div-mul, div-one, mod-one}
 use native.Mathlib.Omega.{arith}
+use lib.Arith.{mod-mul}
 use lib.ListN.{length, set}
 use Rattle.laws.specs.Written.{written, written-none, length-written, written-front}
 
@@ -26,6 +27,16 @@ module _ {spell : ℕ → ℕ → List ℕ} {digit : ℕ → ℕ} {base : ℕ} (
   pub length-spelled : (k n : ℕ) → length (spell k n) ≡ k
   length-spelled zero n = ap length (sp .none n)
   length-spelled (suc k) n = ap length (sp .more k n) ∙ ap suc (length-spelled k n)
+
+  -- where no two digits have the same element, what is spelled can be read back
+  pub same-spelled : 0 < base → ((x y : ℕ) → digit x ≡ digit y → x ≡ y) → (k n m : ℕ) → spell k n ≡ spell k m → n % base ^ k ≡ m % base ^ k
+  same-spelled pos apart zero n m e = rw (pow-zero base, mod-one n, mod-one m)
+  same-spelled pos apart (suc k) n m e =
+      let h = sym (sp .more k n) ∙ e ∙ sp .more k m in
+      let first = apart (n / base ^ k % base) (m / base ^ k % base) (head-eq-of-cons-eq h) in
+      let rest = same-spelled pos apart k n m (tail-eq-of-cons-eq h) in
+      let power : 0 < base ^ k = one-le-pow k base pos in
+      rw (pow-succ' base k, mod-mul n {m = base} {c = base ^ k} pos power, mod-mul m {m = base} {c = base ^ k} pos power, first, rest)
 
   module _ (s : List ℕ) (at k n : ℕ) where
     -- the digits from l on, written at their place

@@ -2,10 +2,13 @@
 -- Assumes nothing.
 use mathlib.Core.Path.{_≡_, refl, sym, ap, _∙_}
 use mathlib.Core.List.{List, [], _∷_, _++_, map, append-assoc, append-nil, map-map}
+use mathlib.Core.Logic.{⊎-elim}
 use Prim.Native.Nat.{ℕ, zero, suc, _+_, _*_, _/_, _%_, _<_}
+use native.Mathlib.Nat.{eq-or-lt-of-le}
 use native.Mathlib.Omega.{arith}
 use lib.Arith.{digits-div, digits-mod}
-use lib.ListN.{length, length-append}
+use lib.ListN.{length, take, drop, length-append}
+use lib.Seq.{take-at, drop-at}
 use Rattle.laws.specs.Lists.{map-append, length-more}
 use Rattle.paper.specs.Rows.{below, joined}
 
@@ -51,6 +54,15 @@ unfolding below joined
 length-joined f k h zero = omega arith
 length-joined f k h (suc n) =
     rw (joined-more f n) (omega (arith, length-append (joined (map f (below n))) (f n), length-joined f k h n, h n))
+
+-- the i-th of them
+pub joined-at : {A : Type 0} (f : ℕ → List A) (k : ℕ) → ((i : ℕ) → length (f i) ≡ k) → (n i : ℕ) (zs : List A) → i < n → take k (drop (k * i) (joined (map f (below n)) ++ zs)) ≡ f i
+joined-at f k h zero i zs l = absurd (omega arith)
+joined-at f k h (suc n) i zs l =
+    rw (joined-more f n, append-assoc (joined (map f (below n))) (f n) zs)
+    (⊎-elim (λ (e : i ≡ n). rw (e, drop-at (joined (map f (below n))) (f n ++ zs) (k * n) (length-joined f k h n)) (take-at (f n) zs k (h n)))
+    (λ (m : i < n). joined-at f k h n i (f n ++ zs) m)
+    (eq-or-lt-of-le (omega arith)))
 
 -- ---- m lists of n by one index: the list varies slowest, the place in it fastest
 

@@ -12,7 +12,7 @@ use Rattle.paper.specs.declared.Row.{Row}
 use Rattle.paper.specs.declared.Row.the-variants.{Range, Blank}
 use Rattle.paper.specs.Record.{Balance}
 use Rattle.paper.specs.Rows.{lines, all, anyFails, keepsAt, breaksAt, upTo, isStep, keeps, rowOf, row, inRange, misses, isBlank}
-use Rattle.planes.proofs.Searches.{up-to, up-to-at, Outcome, a-range, a-blank, outcome, row-of-none}
+use Rattle.planes.proofs.Searches.{up-to, up-to-at, Outcome, a-range, a-blank, outcome, found, row-of-none}
 use Rattle.planes.proofs.Convex.{convex}
 
 -- ---- a step that keeps every limit
@@ -95,3 +95,8 @@ blank-none s b r w e p =
 pub none-blank : (s : Sheet) (b : Balance) (r w : ℕ) → ((p : ℕ) → keeps s b r w p ≡ false) → isBlank (row s b r w) ≡ true
 unfolding row
 none-blank s b r w h = ap isBlank (row-of-none (keeps s b r w) (s .front .most) (λ p k. h p))
+
+-- a printed range ends at the greatest front load at most
+pub range-most : (s : Sheet) (b : Balance) (r w lo hi : ℕ) → row s b r w ≡ Range lo hi → (lo ≤ s .front .most) × (hi ≤ s .front .most)
+unfolding row
+range-most s b r w lo hi e = let h = found (keeps s b r w) (s .front .most) lo hi e in (h .2, h .3)

@@ -5,7 +5,7 @@ use mathlib.Core.List.{List, [], _∷_, _++_, map, map-map}
 use Prim.Native.Nat.{ℕ, suc, _+_, _*_, _/_, _%_, _≤_, _<_}
 use native.Mathlib.Nat.{div-lt-iff-lt-mul, mod-lt}
 use native.Mathlib.Omega.{arith}
-use lib.ListN.{length}
+use lib.ListN.{length, take, drop}
 use Rattle.laws.specs.Division.{multiple-most}
 use Rattle.paper.specs.declared.Sheet.{Sheet}
 use Rattle.paper.specs.declared.Row.{Row}
@@ -14,7 +14,7 @@ use Rattle.paper.specs.Rows.{row, isBlank, below, loadsOf, rowCount, joined, lo
 use Rattle.paper.specs.Placard.{line, text, textLength, blankOf, blankCount}
 use Rattle.plate.specs.Numbered.{waters, rearAt, waterAt, rowAt, lineAt, blanks}
 use Rattle.line.proofs.Length.{length-line}
-use Rattle.paper.proofs.Lists.{map-below-more, joined-more, length-joined, joined-by-index}
+use Rattle.paper.proofs.Lists.{map-below-more, joined-more, length-joined, joined-at, joined-by-index}
 
 -- ---- the loads
 
@@ -51,6 +51,12 @@ length-lines s b i = length-joined (lineAt s b) 36 (λ j. length-line (rearAt s 
 pub length-text : (s : Sheet) (b : Balance) → length (text s b) ≡ textLength s
 unfolding textLength
 length-text s b = rw (text-by-index s b) (length-lines s b (rowCount s))
+
+-- the i-th line, whatever stands behind the last
+pub line-at : (s : Sheet) (b : Balance) (i : ℕ) (zs : List ℕ) → i < rowCount s → take 36 (drop (36 * i) (text s b ++ zs)) ≡ lineAt s b i
+line-at s b i zs h =
+    rw (text-by-index s b)
+    (joined-at (lineAt s b) 36 (λ j. length-line (rearAt s j) (waterAt s j) (rowAt s b j)) (rowCount s) i zs h)
 
 -- one more line
 pub lines-more : (s : Sheet) (b : Balance) (i : ℕ) → joined (map (lineAt s b) (below (suc i))) ≡ joined (map (lineAt s b) (below i)) ++ lineAt s b i
