@@ -54,11 +54,7 @@ and-swapped true true c d = refl
 and-swapped true false c d = sym (and-false c)
 and-swapped false b c d = refl
 
--- neither passes
-pub neither : (a b : Bool) → a ≡ false → b ≡ false → (a || b) ≡ false
-neither true b e h = e
-neither false b e h = h
-
+-- neither of the two passes
 pub not-left : (a b : Bool) → (a || b) ≡ false → a ≡ false
 not-left true b e = e
 not-left false b e = refl

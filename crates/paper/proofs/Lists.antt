@@ -1,5 +1,4 @@
--- Lists over 0, 1, .. n - 1: one more of them, a list of lists by one index, and how long they are.
--- Assumes nothing.
+-- Lists over 0, 1, .. n - 1: one more of them, lists one behind the other, and a list of lists by one index. Assumes nothing.
 use mathlib.Core.Path.{_≡_, refl, sym, ap, _∙_}
 use mathlib.Core.List.{List, [], _∷_, _++_, map, append-assoc, append-nil, map-map}
 use mathlib.Core.Logic.{⊎-elim}
@@ -9,13 +8,8 @@ use native.Mathlib.Omega.{arith}
 use lib.Arith.{digits-div, digits-mod}
 use lib.ListN.{length, take, drop, length-append}
 use lib.Seq.{take-at, drop-at}
-use Rattle.laws.specs.Lists.{map-append, length-more}
+use Rattle.laws.specs.Lists.{map-append}
 use Rattle.paper.specs.Rows.{below, joined}
-
-pub length-below : (n : ℕ) → length (below n) ≡ n
-unfolding below
-length-below zero = refl
-length-below (suc n) = omega (arith, length-more (below n) n, length-below n)
 
 -- one more
 pub map-below-more : {A : Type 0} (f : ℕ → A) (i : ℕ) → map f (below (suc i)) ≡ map f (below i) ++ f i ∷ []

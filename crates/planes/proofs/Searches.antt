@@ -118,7 +118,7 @@ outcome q n = ends (first-of q (suc n) 0) (last-of q n)
     ends (first lo e t h k u) (no-last f u′) = absurd (clash (q lo) t (u′ lo (omega arith)))
     ends (no-first e u) l = a-blank (rw (rowOf, e)) (λ j m. u j (omega arith) (omega arith))
 
--- ---- read off an outcome
+-- ---- read off a range
 
 abbrev lowEnd : Row → ℕ
 lowEnd (Range lo hi) = lo
@@ -141,14 +141,6 @@ found q n lo hi e = by (outcome q n)
         let y : b ≡ hi = ap highEnd (sym f ∙ e) in
         rw (x, y) at ends
     by (a-blank f h) = absurd (not-both lo hi (sym f ∙ e))
-
--- of a row that is blank
-pub none-found : (q : ℕ → Bool) (n : ℕ) → rowOf q n ≡ Blank → NonePasses q n
-none-found q n e = by (outcome q n)
-  where
-    by : Outcome q n → NonePasses q n
-    by (a-range a b f ends) = absurd (not-both a b (sym e ∙ f))
-    by (a-blank f h) = h
 
 -- ---- the row of a test whose ends are known, of one that none passes, and of one that is another up to n
 

@@ -25,7 +25,7 @@ ghost use Rattle.plate.specs.InForce.{found};
 const LINE: usize = 36;
 
 // The sheet in force, where there is one.
-pub enum InForce {
+enum InForce {
     Nothing,
     Found(Sheet),
 }

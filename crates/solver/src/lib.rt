@@ -12,9 +12,9 @@ ghost use Rattle.planes.specs.Plane.{holds, kept, Small};
 ghost use Rattle.solver.specs.Span.{within, multiple};
 
 // The loads from lo to hi; none where hi is below lo.
-pub struct Span {
-    pub lo: u64,
-    pub hi: u64,
+struct Span {
+    lo: u64,
+    hi: u64,
 }
 
 // The least number of bs that makes x or more.

@@ -2,9 +2,12 @@
 -- behind the lines before it. Assumes nothing.
 use borrow.Author.Needs.{needs}
 use mathlib.Core.Path.{_≡_, ap, _∙_}
-use Prim.Native.Nat.{ℕ, _*_, _/_, _%_, _≤_}
+use mathlib.Core.List.{List}
+use Prim.Native.Nat.{ℕ, _-_, _*_, _/_, _%_, _≤_}
 use native.Mathlib.Omega.{arith}
+use lib.ListN.{length, take, drop}
 use Rattle.paper.specs.declared.Sheet.{Sheet}
+use Rattle.paper.specs.Placard.{line}
 use Rattle.sheet.proofs.Accepted.{accepted-sheet}
 use Rattle.balance.specs.Balance.{plain}
 use Rattle.laws.specs.Written.{written, written-part}
@@ -84,6 +87,20 @@ blank-requires c κs = search needs
 same-length : tie.Need-same-length
 same-length c = search needs
 
+-- the line that is put is that of these loads and of the row found, into the part behind the lines before it
+module _ (c : tie.After-put-line) where
+  abbrev at-loads : tie.After-loads
+  at-loads = c .before .before .before .before .before
+
+  abbrev lent : List ℕ
+  lent = at-loads .before .before .args .out .now
+
+  abbrev place : ℕ
+  place = 36 * i at-loads
+
+  put : c .put-line .last .0 ≡ written (take (length lent - place) (drop place lent)) 0 (line (i at-loads / at-loads .loads .result * s at-loads .rear .step) (i at-loads % at-loads .loads .result * s at-loads .water .step) (c .before .before .row .result))
+  put = c .put-line .ensures
+
 returns : tie.Need-returns
 returns c =
     let p = c .before .before .before in
@@ -94,7 +111,7 @@ returns c =
       c .blank .ensures .0 ∙ ap blanks x,
       c .blank .ensures .1,
       written-part (b .args .out .now) (p .put-line .last .0) _ _
-          (p .put-line .ensures ∙ ap (written _ 0) (line-of (b .args .s) (plain (b .args .b)) (b .args .i) _ _ _ (rear l) (water l) x)),
+          (put p ∙ ap (written _ 0) (line-of (b .args .s) (plain (b .args .b)) (b .args .i) _ _ _ (rear l) (water l) x)),
     )
 
 pub put-row-spec : {M : Type 1} → statement M

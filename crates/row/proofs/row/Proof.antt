@@ -1,8 +1,10 @@
 -- `row::row` meets its contract: the half-planes say what the limits say, and the solver finds their row. Assumes nothing.
 use borrow.Author.Needs.{needs}
-use mathlib.Core.Path.{_∙_}
+use mathlib.Core.Path.{_≡_, _∙_}
 use native.Mathlib.Omega.{arith}
+use Rattle.paper.specs.Rows.{rowOf}
 use Rattle.balance.specs.Balance.{plain}
+use Rattle.planes.specs.Plane.{kept}
 use Rattle.sheet.proofs.Accepted.{accepted-sheet}
 use Rattle.row.proofs.Solved.{solved}
 use Rattle.row.proofs.row.Statement.{statement}
@@ -16,10 +18,14 @@ find-row-requires c κs =
     let b = c .before .before in
     (accepted-sheet (b .args .s) (b .pre .0) .steps .front .0, omega (arith, b .pre .3), c .limits .ensures .1)
 
+-- the solver was asked for the row of the sheet's steps, the water and those half-planes
+found : (c : tie.After-find-row) → c .find-row .result ≡ rowOf (kept (c .before .before .before .args .s .front .step) (c .before .before .before .args .s .least) (c .before .before .before .args .s .front .most) (c .before .before .before .args .water) (c .before .limits .result)) (c .before .before .before .args .s .front .most)
+found c = c .find-row .ensures
+
 returns : tie.Need-returns
 returns c =
-    let b = c .before .before .before in
-    c .find-row .ensures ∙ solved (b .args .s) (plain (b .args .b)) (b .args .rear) (b .args .water) (c .before .limits .result) (c .before .limits .ensures .0)
+    let a = c .before .before .before .args in
+    found c ∙ solved (a .s) (plain (a .b)) (a .rear) (a .water) (c .before .limits .result) (c .before .limits .ensures .0)
 
 pub row-spec : {M : Type 1} → statement M
 row-spec = tie.close (tie.spec limits-requires find-row-requires returns)
