@@ -106,7 +106,7 @@ fn read_entries(r: Record, s: &[u8], count: usize) -> Kept
     let mut at = HEADER;
     let mut i = 0;
     while i < count {
-        let Walk::Got(entry, place) = entries::next_entry(s, at) else {
+        let Walk::Got(entry, place) = reader::entry_at(s, at) else {
             return Kept { number: 12, log: r };
         };
         let log = now.log;

@@ -38,8 +38,8 @@ loop-holds c =
     let b = c .before .before in
     (omega arith, begun (b .args .s .now) (b .args .count) _ (replays.begun (c .fresh .result) (c .fresh .ensures)))
 
-next-entry-requires : tie.Need-next-entry-requires Inv-loop μ-loop
-next-entry-requires c κs = search needs
+entry-at-requires : tie.Need-entry-at-requires Inv-loop μ-loop
+entry-at-requires c κs = search needs
 
 enum-known-entry : tie.Need-enum-known-entry Inv-loop μ-loop
 enum-known-entry c = search needs
@@ -54,7 +54,7 @@ returns c =
     let m = n .before .before in
     let a = m .before .before .before .args in
     let l = m .loop in
-    let found = no-entry (a .s .now) (a .count) (l .i) (l .at) (l .now) (l .inv .1) (n .before .loop-test .taken) (sym (n .next-entry .ensures) ∙ c .enum-told .given .1) in
+    let found = no-entry (a .s .now) (a .count) (l .i) (l .at) (l .now) (l .inv .1) (n .before .loop-test .taken) (sym (n .entry-at .ensures) ∙ c .enum-told .given .1) in
     sym (ap (foundOr (a .r)) found)
 
 judge-requires : tie.Need-judge-requires Inv-loop μ-loop
@@ -68,7 +68,7 @@ module _ (c : tie.After-judge Inv-loop μ-loop) where
   entry = c .before .before .before .entry .given .0 .0
 
   found : walkAt (c .before .before .before .before .before .before .before .before .before .before .args .s .now) (c .before .before .before .before .before .before .before .loop .at) ≡ Got entry (c .before .before .before .entry .given .0 .1 .0)
-  found = sym (c .before .before .before .before .before .next-entry .ensures) ∙ c .before .before .before .entry .given .1
+  found = sym (c .before .before .before .before .before .entry-at .ensures) ∙ c .before .before .before .entry .given .1
 
 enum-known-next : tie.Need-enum-known-next Inv-loop μ-loop
 enum-known-next c = search needs
@@ -144,7 +144,7 @@ read-entries-spec =
     μ-loop
     fresh-requires
     loop-holds
-    next-entry-requires
+    entry-at-requires
     enum-known-entry
     enum-told
     returns
