@@ -3,6 +3,12 @@
     python3 tools/oracle.py cases > crates/cases/stdout
     python3 tools/oracle.py files > crates/files/stdout
     python3 tools/oracle.py plates > crates/plates/stdout
+    python3 tools/oracle.py logbooks > crates/logbooks/stdout
+    python3 tools/oracle.py logbook-cases > crates/logbooks/stdin
+    python3 tools/oracle.py sample-placards    (writes samples/*.placard)
+    python3 tools/oracle.py sample-file > crates/logbook/stdout
+    python3 tools/oracle.py listed-file > crates/show/stdin
+    python3 tools/oracle.py sample-listing > crates/show/stdout
 
 A journal is the tuple of the entries accepted so far. A call takes a journal and answers its number, 0 where it is
 accepted, and the journal afterwards.
@@ -361,9 +367,20 @@ if __name__ == "__main__":
     sys.dont_write_bytecode = True
     import cases
     import files
+    import logbooks
     import plates
 
-    reports = {"cases": cases.report, "files": files.report, "plates": plates.report}
+    reports = {
+        "cases": cases.report,
+        "files": files.report,
+        "plates": plates.report,
+        "logbooks": logbooks.report,
+        "logbook-cases": logbooks.cases_taken,
+        "sample-placards": logbooks.placards,
+        "sample-file": logbooks.sample_file,
+        "listed-file": logbooks.sample_listing_taken,
+        "sample-listing": logbooks.sample_listing,
+    }
     if len(sys.argv) != 2 or sys.argv[1] not in reports:
         sys.exit(f"usage: python3 tools/oracle.py {'|'.join(reports)}")
     reports[sys.argv[1]]()

@@ -1,19 +1,17 @@
 -- Numbers as bytes, the highest first: the bytes of a number spell it, and the number that some bytes spell has just them.
 -- Assumes nothing.
-use mathlib.Core.Path.{_≡_, refl, sym, _∙_}
+use mathlib.Core.Path.{_≡_, refl, _∙_}
 use mathlib.Core.Bool.{true}
 use mathlib.Core.List.{List, [], _∷_, _++_}
 use Prim.Native.Nat.{ℕ, zero, suc, _+_, _*_, _/_, _%_, _^_, _<_, suc-le-suc}
-use native.Mathlib.Nat.{zero-lt-suc, one-le-pow, pow-zero, pow-suc, pow-succ', mul-assoc, mod-lt, mod-one, mod-eq-of-lt, mul-add-div-right, mul-add-mod-self-right}
-use native.Mathlib.Numerals.{add-one}
-use native.Mathlib.Omega.{arith}
+use native.Mathlib.Nat.{zero-lt-suc, one-le-pow, pow-succ', mul-assoc, mod-lt, mod-eq-of-lt, mul-add-div-right, mul-add-mod-self-right}
 use borrow.Author.Tests.{ltb-true, lt-ltb}
-use lib.Arith.{digits-lt, digits-div, mod-mul}
+use lib.Arith.{digits-div}
 use lib.Dec.{ltb}
 use lib.ListN.{length, getD, take, drop}
 use lib.Pow.{areBytes}
-use Rattle.laws.specs.Spelled.{Spelling, length-spelled}
-use Rattle.laws.specs.Lists.{length-more}
+use Rattle.laws.specs.Spelled.{Spelling, length-spelled, Reading, read-more, read-bound, read-spelled}
+use Rattle.laws.specs.Lists.{Each}
 use Rattle.laws.specs.Tests.{both, left, right}
 use Rattle.paper.specs.File.{bytesOf, numberOf}
 
@@ -69,27 +67,26 @@ bytes-low (suc k) m n =
 
 -- ---- the number that bytes spell
 
+-- they are read as they are spelled
+reading : Reading numberOf (λ (x : ℕ). x) 256
+unfolding numberOf
+reading = record { none = refl; more = λ x xs. refl }
+
 -- one more byte
 pub number-more : (xs : List ℕ) (x : ℕ) → numberOf (xs ++ x ∷ []) ≡ numberOf xs * 256 + x
-unfolding numberOf
-number-more [] x = rw (pow-zero 256) (omega arith)
-number-more (y ∷ ys) x =
-    rw (length-more ys x, add-one (length ys), pow-suc 256 (length ys), number-more ys x, ← mul-assoc y (256 ^ length ys) 256) (omega arith)
+number-more = read-more reading
+
+each-byte : (xs : List ℕ) → areBytes xs ≡ true → Each (λ (x : ℕ). x < 256) xs
+each-byte [] h = tt
+each-byte (x ∷ xs) h = (ltb-true x 256 (left (ltb x 256) (areBytes xs) h), each-byte xs (right (ltb x 256) (areBytes xs) h))
 
 pub number-bound : (xs : List ℕ) → areBytes xs ≡ true → numberOf xs < 256 ^ length xs
-unfolding numberOf
-number-bound [] h = pow-pos 0
-number-bound (x ∷ xs) h =
-    rw (pow-succ' 256 (length xs))
-    (digits-lt (ltb-true x 256 (left (ltb x 256) (areBytes xs) h)) (number-bound xs (right (ltb x 256) (areBytes xs) h)))
+number-bound xs h = read-bound reading (zero-lt-suc 255) xs (each-byte xs h)
 
 -- ---- there and back
 
 pub number-bytes : (k n : ℕ) → numberOf (bytesOf k n) ≡ n % 256 ^ k
-unfolding bytesOf numberOf
-number-bytes zero n = sym (mod-one n)
-number-bytes (suc k) n =
-    rw (length-bytes k n, number-bytes k n, pow-succ' 256 k, mod-mul n {m = 256} {c = 256 ^ k} (zero-lt-suc 255) (pow-pos k))
+number-bytes = read-spelled reading bytes (λ x h. refl) (zero-lt-suc 255)
 
 pub number-back : (k n : ℕ) → n < 256 ^ k → numberOf (bytesOf k n) ≡ n
 number-back k n h = number-bytes k n ∙ mod-eq-of-lt h

@@ -1,11 +1,11 @@
--- Tests that two integers or two lists are equal, and that what passes is. Assumes nothing.
+-- Tests that two integers or two lists are equal, and that what passes is; equal lists pass. Assumes nothing.
 use mathlib.Core.Path.{_≡_, refl, ap}
 use mathlib.Core.Bool.{Bool, true, false, _&&_}
 use mathlib.Core.List.{List, [], _∷_}
 use lib.Dec.{eqb}
 use lib.IntN.{ℤ, pos, negsuc}
 use borrow.Author.Tests.{eqb-true}
-use Rattle.laws.specs.Tests.{left, right}
+use Rattle.laws.specs.Tests.{both, left, right}
 
 abbrev pub eqZ : ℤ → ℤ → Bool
 eqZ (pos m) (pos n) = eqb m n
@@ -33,3 +33,7 @@ module _ {A : Type 0} (t : A → A → Bool) where
   same-list h (x ∷ xs) [] e = cc
   same-list h (x ∷ xs) (y ∷ ys) e =
       rw (h x y (left (t x y) (eqList xs ys) e), same-list h xs ys (right (t x y) (eqList xs ys) e))
+
+  pub list-same : ((x : A) → t x x ≡ true) → (xs : List A) → eqList xs xs ≡ true
+  list-same h [] = refl
+  list-same h (x ∷ xs) = both (t x x) (eqList xs xs) (h x) (list-same h xs)

@@ -3,6 +3,7 @@ pub mod Tests
 pub mod Lists
 pub mod Written
 pub mod Spelled
+pub mod Splits
 pub mod Options
 pub mod Slopes
 pub mod Division

@@ -1,12 +1,14 @@
 -- A number spelled in a base, the highest digit first, and written into a list from the last digit up: one turn of the loop
--- that does it. Assumes nothing.
+-- that does it. And read back. Assumes nothing.
 use mathlib.Core.Path.{_≡_, sym, ap, _∙_}
-use mathlib.Core.List.{List, [], _∷_, head-eq-of-cons-eq, tail-eq-of-cons-eq}
-use Prim.Native.Nat.{ℕ, zero, suc, _+_, _-_, _/_, _%_, _^_, _≤_, _<_}
-use native.Mathlib.Nat.{pow-zero, pow-suc, pow-succ', one-le-pow, div-div-eq-div-mul, div-one, mod-one}
+use mathlib.Core.List.{List, [], _∷_, _++_, head-eq-of-cons-eq, tail-eq-of-cons-eq}
+use Prim.Native.Nat.{ℕ, zero, suc, _+_, _*_, _-_, _/_, _%_, _^_, _≤_, _<_}
+use native.Mathlib.Nat.{pow-zero, pow-suc, pow-succ', one-le-pow, div-div-eq-div-mul, div-one, mod-one, mod-lt, mul-assoc, add-mul, add-assoc}
+use native.Mathlib.Numerals.{add-one}
 use native.Mathlib.Omega.{arith}
-use lib.Arith.{mod-mul}
+use lib.Arith.{digits-lt, mod-mul}
 use lib.ListN.{length, set}
+use Rattle.laws.specs.Lists.{Each, length-more}
 use Rattle.laws.specs.Written.{written, written-none, length-written, written-front}
 
 -- what is left of a number when its last digits, those from l on of k, are written
@@ -62,3 +64,46 @@ module _ {spell : ℕ → ℕ → List ℕ} {digit : ℕ → ℕ} {base : ℕ} (
         let f : at + 0 ≡ at = omega arith in
         let g : k - 0 ≡ k = omega arith in
         rw (e, f, g)
+
+-- ---- read back
+
+-- the number of some elements, the highest first, each by its own value
+pub record Reading (read : List ℕ → ℕ) (value : ℕ → ℕ) (base : ℕ) : Type 0 where
+  pub none : read [] ≡ 0
+  pub more : (x : ℕ) (xs : List ℕ) → read (x ∷ xs) ≡ value x * base ^ length xs + read xs
+
+module _ {read : List ℕ → ℕ} {value : ℕ → ℕ} {base : ℕ} (rd : Reading read value base) where
+  -- one more element
+  pub read-more : (xs : List ℕ) (x : ℕ) → read (xs ++ x ∷ []) ≡ read xs * base + value x
+  read-more [] x = rw (rd .more x [], rd .none, pow-zero base) (omega arith)
+  read-more (y ∷ ys) x =
+      rw (
+        rd .more y (ys ++ x ∷ []),
+        rd .more y ys,
+        length-more ys x,
+        add-one (length ys),
+        pow-suc base (length ys),
+        read-more ys x,
+        ← mul-assoc (value y) (base ^ length ys) base,
+        add-mul (value y * base ^ length ys) (read ys) base,
+        add-assoc (value y * base ^ length ys * base) (read ys * base) (value x),
+      )
+
+  pub read-bound : 0 < base → (xs : List ℕ) → Each (λ (x : ℕ). value x < base) xs → read xs < base ^ length xs
+  read-bound pos [] e = rw (rd .none, pow-zero base) (omega arith)
+  read-bound pos (x ∷ xs) e = rw (rd .more x xs, pow-succ' base (length xs)) (digits-lt (e .0) (read-bound pos xs (e .1)))
+
+  -- what is spelled is read
+  pub read-spelled : {spell : ℕ → ℕ → List ℕ} {digit : ℕ → ℕ} → Spelling spell digit base → ((x : ℕ) → x < base → value (digit x) ≡ x) → 0 < base → (k n : ℕ) → read (spell k n) ≡ n % base ^ k
+  read-spelled sp back pos zero n = rw (sp .none n, rd .none, pow-zero base, mod-one n)
+  read-spelled sp back pos (suc k) n =
+      let power : 0 < base ^ k = one-le-pow k base pos in
+      rw (
+        sp .more k n,
+        rd .more _ _,
+        length-spelled sp k n,
+        read-spelled sp back pos k n,
+        back (n / base ^ k % base) (mod-lt (n / base ^ k) pos),
+        pow-succ' base k,
+        mod-mul n {m = base} {c = base ^ k} pos power,
+      )

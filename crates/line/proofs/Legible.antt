@@ -10,8 +10,8 @@ use Rattle.laws.specs.Spelled.{same-spelled}
 use Rattle.paper.specs.declared.Row.{Row}
 use Rattle.paper.specs.declared.Row.the-variants.{Range, Blank}
 use Rattle.paper.specs.Placard.{space, feed, digits, kilograms, ends, line}
-use Rattle.line.proofs.Length.{length-digits, length-kilograms, length-pair, length-fields}
-use Rattle.line.proofs.Turns.{decimal}
+use Rattle.line.proofs.Length.{length-kilograms, length-pair, length-fields}
+use Rattle.numerals.proofs.Digits.{spelled, length-digits}
 
 -- four digits of kilograms are enough
 abbrev pub Fits : ℕ → Type 0
@@ -23,7 +23,7 @@ RowFits Blank = Unit {0}
 
 digits-same : (k n m : ℕ) → n < 10 ^ k → m < 10 ^ k → digits k n ≡ digits k m → n ≡ m
 digits-same k n m h l e =
-    rw (mod-eq-of-lt h, mod-eq-of-lt l) at (same-spelled decimal (omega arith) (λ x y d. omega arith) k n m e)
+    rw (mod-eq-of-lt h, mod-eq-of-lt l) at (same-spelled spelled (omega arith) (λ x y d. omega arith) k n m e)
 
 pub kilograms-same : (n m : ℕ) → Fits n → Fits m → kilograms n ≡ kilograms m → n ≡ m
 unfolding kilograms

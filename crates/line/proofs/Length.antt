@@ -4,14 +4,10 @@ use mathlib.Core.List.{[], _∷_, _++_}
 use Prim.Native.Nat.{ℕ, _/_, _%_}
 use native.Mathlib.Omega.{arith}
 use lib.ListN.{length, length-append}
-use Rattle.laws.specs.Spelled.{length-spelled}
 use Rattle.paper.specs.declared.Row.{Row}
 use Rattle.paper.specs.declared.Row.the-variants.{Range, Blank}
 use Rattle.paper.specs.Placard.{space, feed, point, digits, kilograms, ends, line}
-use Rattle.line.proofs.Turns.{decimal}
-
-pub length-digits : (k n : ℕ) → length (digits k n) ≡ k
-length-digits = length-spelled decimal
+use Rattle.numerals.proofs.Digits.{length-digits}
 
 pub length-kilograms : (n : ℕ) → length (kilograms n) ≡ 8
 unfolding kilograms

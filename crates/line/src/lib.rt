@@ -1,4 +1,5 @@
 // A line of the placard: rear load, water, smallest and largest front load, in 36 bytes.
+use numerals::put_digits;
 use paper::Row;
 ghost use mathlib.Core.Path.{_≡_};
 ghost use mathlib.Core.List.{_∷_, _++_};
@@ -6,21 +7,7 @@ ghost use Prim.Native.Nat.{_+_, _≤_};
 ghost use lib.ListN.{length, replicate};
 ghost use Rattle.laws.specs.Written.{written};
 ghost use Rattle.paper.specs.declared.Row.the-variants.{Blank};
-ghost use Rattle.paper.specs.Placard.{space, hyphen, digits, kilograms, ends, line};
-
-// The last k decimal digits of n, from a place on.
-fn put_digits(out: &mut [u8], at: usize, k: usize, n: u64)
-    requires { ⌜ at + k ≤ length (now out) ⌝ }
-    ensures { λ _. ⌜ now (out .exit) ≡ written (now (out .entry)) at (digits k n) ⌝ }
-{
-    let mut left = k;
-    let mut rest = n;
-    while 0 < left {
-        left -= 1;
-        out[at + left] = b'0' + (rest % 10) as u8;
-        rest = rest / 10;
-    }
-}
+ghost use Rattle.paper.specs.Placard.{space, hyphen, kilograms, ends, line};
 
 // A load: four digits of kilograms, a point, three of grams.
 fn put_kilograms(out: &mut [u8], at: usize, n: u64)

@@ -5,7 +5,7 @@ use native.Mathlib.Omega.{arith}
 use lib.ListN.{length-set}
 use Rattle.paper.specs.Placard.{point, digits, kilograms}
 use Rattle.laws.specs.Written.{written-three}
-use Rattle.line.proofs.Length.{length-digits}
+use Rattle.numerals.proofs.Digits.{length-digits}
 use Rattle.line.proofs.put_kilograms.Statement.{statement}
 use Rattle.line.proofs.put_kilograms.Tie as tie
 

@@ -1,0 +1,2 @@
+-- The logbook.
+pub mod Books

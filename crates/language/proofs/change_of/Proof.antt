@@ -1,0 +1,32 @@
+-- `language::change_of` meets its contract: the flag is without its sign. Assumes nothing.
+use mathlib.Core.Path.{_≡_}
+use borrow.Author.Needs.{needs}
+use mir.Facts.{toZ-ofZ}
+use Rattle.paper.specs.File.{plainAt, entryOf}
+use Rattle.language.proofs.change_of.Statement.{statement}
+use Rattle.language.proofs.change_of.Tie as tie
+
+array-copy-out-t5 : tie.Need-array-copy-out-t5
+array-copy-out-t5 c = search needs
+
+array-copy-out-t8 : tie.Need-array-copy-out-t8
+array-copy-out-t8 c = search needs
+
+array-copy-out-plain : tie.Need-array-copy-out-plain
+array-copy-out-plain c = search needs
+
+plain-requires : tie.Need-plain-requires
+plain-requires c κs = search needs
+
+returns : tie.Need-returns
+unfolding entryOf
+returns c =
+    let b = c .before in
+    let v = b .before .before .before .args .t1 in
+    let flag : c .plain .result ≡ plainAt v 2 = rw (toZ-ofZ (record { sfits = b .plain-arg .given })) at (c .plain .ensures) in
+    rw (toZ-ofZ (record { sfits = b .before .before .t5 .given }), toZ-ofZ (record { sfits = b .before .t8 .given }), flag)
+
+pub change-of-spec : {M : Type 1} → statement M
+change-of-spec =
+    tie.close
+    (tie.spec array-copy-out-t5 array-copy-out-t8 array-copy-out-plain plain-requires returns)

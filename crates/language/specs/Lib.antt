@@ -1,0 +1,2 @@
+-- The logbook's language.
+pub mod Lines

@@ -1,0 +1,52 @@
+-- The listing of a record: its entries as lines of a logbook, and behind each weighing and change a comment that says what it
+-- comes to.
+use mathlib.Core.Bool.{cond}
+use mathlib.Core.List.{List, [], _∷_, _++_}
+use Prim.Native.Nat.{ℕ}
+use lib.Dec.{ltb}
+use lib.ListN.{length}
+use Rattle.paper.specs.declared.Entry.{Entry}
+use Rattle.paper.specs.declared.Entry.the-variants as entry
+use Rattle.paper.specs.declared.CentreOfGravity.{CentreOfGravity}
+use Rattle.paper.specs.declared.Written.{Written}
+use Rattle.paper.specs.Placard.{feed}
+use Rattle.paper.specs.Answers.{centreAnswer, writtenBy}
+use Rattle.paper.specs.Refusals.{firstNumber, _when_}
+use Rattle.numerals.specs.Numerals.{decimal, numeral}
+use Rattle.wording.specs.Texts.{entryText}
+
+-- "# total ", " moment " and " centre "
+abbrev pub totalText : List ℕ
+totalText = 35 ∷ 32 ∷ 116 ∷ 111 ∷ 116 ∷ 97 ∷ 108 ∷ 32 ∷ []
+
+abbrev pub momentText : List ℕ
+momentText = 32 ∷ 109 ∷ 111 ∷ 109 ∷ 101 ∷ 110 ∷ 116 ∷ 32 ∷ []
+
+abbrev pub centreText : List ℕ
+centreText = 32 ∷ 99 ∷ 101 ∷ 110 ∷ 116 ∷ 114 ∷ 101 ∷ 32 ∷ []
+
+-- a comment's line: total, moment and centre of gravity
+unfoldable pub comment : CentreOfGravity → List ℕ
+comment c = totalText ++ decimal (c .total) ++ momentText ++ numeral (c .moment) ++ centreText ++ numeral (c .centre) ++ feed ∷ []
+
+-- what follows an entry's line, of a list that ends with the entry
+unfoldable pub remark : List Entry → Entry → List ℕ
+remark es (entry.Weighing w) = comment (centreAnswer es)
+remark es (entry.Sheet s) = []
+remark es (entry.Change x) = comment (centreAnswer es)
+
+-- the lines of an entry, of a list that ends with it
+unfoldable pub linesOf : List Entry → Entry → List ℕ
+linesOf es e = entryText e ++ feed ∷ remark es e
+
+-- the lines of entries behind a list
+unfoldable pub listedAfter : List Entry → List Entry → List ℕ
+listedAfter es [] = []
+listedAfter es (f ∷ fs) = linesOf (es ++ f ∷ []) f ++ listedAfter (es ++ f ∷ []) fs
+
+unfoldable pub listing : List Entry → List ℕ
+listing es = listedAfter [] es
+
+-- the answer, and the buffer as the call leaves it: 11 where the buffer is too short
+unfoldable pub listedAnswer : List Entry → List ℕ → Written × List ℕ
+listedAnswer es buffer = writtenBy (firstNumber (11 when ltb (length buffer) (length (listing es)) ∷ [])) (listing es) buffer

@@ -1,0 +1,98 @@
+// The listing of a record: its entries as lines of a logbook, with what each weighing and change comes to as a comment.
+use paper::CentreOfGravity;
+use paper::Entry;
+use paper::Written;
+use record::Record;
+use wording::put_bytes;
+ghost use mathlib.Core.Path.{_≡_};
+ghost use Prim.Native.Nat.{_+_, _≤_};
+ghost use mathlib.Core.Bool.{true};
+ghost use mathlib.Core.List.{_++_};
+ghost use lib.ListN.{length};
+ghost use Rattle.laws.specs.Written.{written};
+ghost use Rattle.paper.specs.Refusals.{accepted};
+ghost use Rattle.numerals.specs.Numerals.{numeral};
+ghost use Rattle.wording.specs.Texts.{Readable};
+ghost use Rattle.record.specs.Held.{slotted, heldBy};
+ghost use Rattle.listing.specs.Listings.{comment, remark, linesOf, listing, listedAnswer};
+
+// The most bytes that a listing takes: 64 entries, each with its comment at its longest.
+pub const LONGEST: usize = 27264;
+
+// A number behind its label. The answer is the place behind it.
+fn put_labelled(out: &mut [u8], at: usize, label: &[u8], x: i64) -> usize
+    requires { ⌜ at + length (now label ++ numeral x) ≤ length (now out) ⌝ }
+    ensures { λ r. ⌜ (r ≡ at + length (now (label .entry) ++ numeral x)) × (now (out .exit) ≡ written (now (out .entry)) at (now (label .entry) ++ numeral x)) ⌝ }
+{
+    let from = put_bytes(out, at, label);
+    numerals::put_number(out, from, x)
+}
+
+// A comment's line. The answer is the place behind it.
+fn put_comment(out: &mut [u8], at: usize, c: CentreOfGravity) -> usize
+    requires { ⌜ at + length (comment c) ≤ length (now out) ⌝ }
+    ensures { λ r. ⌜ (r ≡ at + length (comment c)) × (now (out .exit) ≡ written (now (out .entry)) at (comment c)) ⌝ }
+{
+    let total = put_bytes(out, at, b"# total ");
+    let moment = numerals::put_size(out, total, c.total);
+    let centre = put_labelled(out, moment, b" moment ", c.moment);
+    let end = put_labelled(out, centre, b" centre ", c.centre);
+    out[end] = b'\n';
+    end + 1
+}
+
+// What follows the line of a record's last entry. The answer is the place behind it.
+fn put_remark(out: &mut [u8], at: usize, log: Record, e: Entry) -> usize
+    requires { ⌜ at + length (remark (heldBy log) e) ≤ length (now out) ⌝ }
+    ensures { λ r. ⌜ (r ≡ at + length (remark (heldBy log) e)) × (now (out .exit) ≡ written (now (out .entry)) at (remark (heldBy log) e)) ⌝ }
+{
+    match e {
+        Entry::Sheet(_) => at,
+        _ => put_comment(out, at, log.centre_of_gravity()),
+    }
+}
+
+// The lines of a record's last entry. The answer is the place behind them.
+fn put_lines(out: &mut [u8], at: usize, log: Record, e: Entry) -> usize
+    requires { ⌜ Readable e × (at + length (linesOf (heldBy log) e) ≤ length (now out)) ⌝ }
+    ensures { λ r. ⌜ (r ≡ at + length (linesOf (heldBy log) e)) × (now (out .exit) ≡ written (now (out .entry)) at (linesOf (heldBy log) e)) ⌝ }
+{
+    let end = wording::put_entry(out, at, e);
+    out[end] = b'\n';
+    put_remark(out, end + 1, log, e)
+}
+
+// The lines of all entries of a record that calls gave. The answer is how many bytes they take.
+fn put_listing(out: &mut [u8], r: Record) -> usize
+    requires { ⌜ (accepted (slotted r) ≡ true) × (r .count ≤ 64) × (length (listing (slotted r)) ≤ length (now out)) ⌝ }
+    ensures { λ n. ⌜ (n ≡ length (listing (slotted r))) × (now (out .exit) ≡ written (now (out .entry)) 0 (listing (slotted r))) ⌝ }
+{
+    let mut log = Record::fresh();
+    let mut at = 0;
+    let mut i = 0;
+    while i < r.count {
+        let slot = r.slots[i];
+        let e = slot.entry;
+        log = record::appended(log, e);
+        at = put_lines(out, at, log, e);
+        i += 1;
+    }
+    at
+}
+
+// The listing: 11 where the buffer is too short, and then no byte of it changes.
+pub fn show(r: Record, out: &mut [u8]) -> Written
+    ensures { λ a. ⌜ (a ≡ listedAnswer (heldBy r) (now (out .entry)) .0) × (now (out .exit) ≡ listedAnswer (heldBy r) (now (out .entry)) .1) ⌝ }
+{
+    let now = record::replay(r);
+    let mut text = [0u8; LONGEST];
+    let length = put_listing(&mut text, now.log);
+    if out.len() < length {
+        return Written {
+            number: 11,
+            length: 0,
+        };
+    }
+    bytes::copy(&text[..length], out);
+    Written { number: 0, length }
+}

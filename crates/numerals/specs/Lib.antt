@@ -1,0 +1,2 @@
+-- Whole numbers as words of text.
+pub mod Numerals

@@ -1,0 +1,62 @@
+-- What is copied is written; and one value more behind the first i, a space before each. Assumes nothing.
+use mathlib.Core.Path.{_≡_, ap, _∙_}
+use mathlib.Core.List.{List, [], _∷_, _++_, map}
+use Prim.Native.Nat.{ℕ, zero, suc, _+_, _≤_, _<_}
+use native.Mathlib.Omega.{arith}
+use lib.IntN.{ℤ, pos}
+use lib.ListN.{length, getD, take, drop, set, length-append, length-set}
+use lib.Seq.{take-all}
+use Rattle.laws.specs.Lists.{map-take-more}
+use Rattle.laws.specs.Written.{written, length-written, written-first, written-more, written-behind}
+use Rattle.paper.specs.Rows.{joined}
+use Rattle.paper.specs.Placard.{space}
+use Rattle.paper.proofs.Lists.{joined-last}
+use Rattle.numerals.specs.Numerals.{numeral}
+use Rattle.wording.specs.Texts.{spaced}
+
+-- a copy into the front of a list
+pub copied : (s xs last : List ℕ) → last ≡ take (length xs) xs ++ drop (length xs) s → last ≡ written s 0 xs
+copied s xs last e = rw (written-first s xs) (rw (take-all (length xs) xs (omega arith)) at e)
+
+-- one element set, and the list is as long
+pub set-within : (s : List ℕ) (i x n : ℕ) → n ≤ length s → n ≤ length (set s i x)
+set-within s i x n h = omega (arith, length-set s i x)
+
+-- ---- values
+
+-- the first i values
+abbrev pub valuesTo : List ℤ → ℕ → List ℕ
+valuesTo vs i = joined (map spaced (take i vs))
+
+-- the first i are among the first c
+pub values-part : (vs : List ℤ) (i c : ℕ) → i ≤ c → length (valuesTo vs i) ≤ length (valuesTo vs c)
+unfolding joined
+values-part vs zero c h = omega arith
+values-part vs (suc i) zero h = absurd (omega arith)
+values-part [] (suc i) (suc c) h = omega arith
+values-part (v ∷ vs) (suc i) (suc c) h =
+    omega (arith, length-append (spaced v) (valuesTo vs i), length-append (spaced v) (valuesTo vs c), values-part vs i c (omega arith))
+
+module _ (vs : List ℤ) (i : ℕ) (h : i < length vs) where
+  -- the value there
+  abbrev value : ℤ
+  value = getD vs i (pos 0)
+
+  values-more : valuesTo vs (i + 1) ≡ valuesTo vs i ++ spaced value
+  values-more = rw (map-take-more spaced vs i (pos 0) h) (joined-last (map spaced (take i vs)) (spaced value))
+
+  -- as the code counts: a space, and the numeral
+  pub counted : (at to : ℕ) → to ≡ at + length (valuesTo vs i) → to + 1 + length (numeral value) ≡ at + length (valuesTo vs (i + 1))
+  counted at to e = omega (arith, ap length values-more, length-append (valuesTo vs i) (spaced value))
+
+  -- they are within what the first c take
+  pub within : (c at to m : ℕ) → i < c → to ≡ at + length (valuesTo vs i) → at + length (valuesTo vs c) ≤ m → to + 1 + length (numeral value) ≤ m
+  within c at to m k e f = omega (arith, counted at to e, values-part vs (i + 1) c (omega arith))
+
+  -- a space and the numeral, written behind the first i
+  pub put-more : (s out last : List ℕ) (at to : ℕ) → to < length s → to ≡ at + length (valuesTo vs i) → out ≡ written s at (valuesTo vs i) → last ≡ written (set out to space) (to + 1) (numeral value) → last ≡ written s at (valuesTo vs (i + 1))
+  put-more s out last at to k e o l =
+      let xs = valuesTo vs i in
+      let n = length-written s at xs (omega arith) in
+      rw (l, values-more, o, e)
+      (written-behind (written s at xs) (at + length xs) space (numeral value) (omega arith) ∙ written-more s at xs (spaced value) (omega arith))

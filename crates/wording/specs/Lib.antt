@@ -1,0 +1,2 @@
+-- The text of an entry.
+pub mod Texts

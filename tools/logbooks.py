@@ -1,0 +1,258 @@
+"""The logbook's language, read and written by the oracle's reckoning: what the programs `logbooks`, `logbook` and `show` take
+and print, and the samples' placards."""
+
+import contextlib
+import io
+import re
+import sys
+from pathlib import Path
+
+import cases
+import files
+import plates
+from oracle import Change, Sheet, Weighing, add, centre_of_gravity, file_of, placard, read, undo
+from oracle import SIGNED
+
+SAMPLES = Path(__file__).parent.parent / "samples"
+NAMES = {"weighing": Weighing, "sheet": Sheet, "change": Change}
+NAME_OF = {kind: name for name, kind in NAMES.items()}
+MOST_TEXT = 65536
+SHORT = 512
+
+
+# The language: each kind's lines by a pattern of its own. A number has at most eighteen digits.
+
+PLAIN, NEGATIVE = "(?:0|[1-9][0-9]{0,17})", "(?:-[1-9][0-9]{0,17})"
+
+
+def pattern(name, kind):
+    fields = (f" ({PLAIN}|{NEGATIVE})" if field in SIGNED else f" ({PLAIN})" for field in kind._fields)
+    return re.compile((name + "".join(fields)).encode())
+
+
+PATTERNS = {kind: pattern(name, kind) for name, kind in NAMES.items()}
+
+
+def said(line):
+    """The entry that a line says, or None."""
+    for kind, form in PATTERNS.items():
+        found = form.fullmatch(line)
+        if found:
+            return kind(*map(int, found.groups()))
+    return None
+
+
+def called(journal, line):
+    """What a line's call answers; a number of None: not understood."""
+    if line == b"" or line.startswith(b"#"):
+        return 0, journal
+    if line == b"undo":
+        return undo(journal)
+    entry = said(line)
+    return (None, journal) if entry is None else add(journal, entry)
+
+
+def logbook(text):
+    """The journal of a text, and how it fails, or None."""
+    journal = ()
+    for at, line in enumerate(text.split(b"\n"), 1):
+        number, journal = called(journal, line)
+        if number is None:
+            return (), f"line {at}: not understood\n"
+        if number:
+            return (), f"line {at}: refused {number}\n"
+    return journal, None
+
+
+# Texts.
+
+
+def entry_line(entry):
+    return " ".join([NAME_OF[type(entry)], *map(str, entry)]) + "\n"
+
+
+def listing(journal):
+    lines = []
+    for at, entry in enumerate(journal, 1):
+        lines.append(entry_line(entry))
+        if not isinstance(entry, Sheet):
+            _, total, moment, centre = centre_of_gravity(journal[:at])
+            lines.append(f"# total {total} moment {moment} centre {centre}\n")
+    return "".join(lines).encode()
+
+
+# Cases: lines that are in the language and lines that are not.
+
+A = "weighing 1 310000 29900 9500 550000 0"
+S = "sheet 11200 30000 500000 500000 0 -123200 0 110000 1000 -11200 110000 55000 0 0 1"
+C = "change 4500 -100000 1"
+
+OF_A_LINE = (
+    *("", "\n", "\n\n\n", "#", "# a comment", "#undo", "#\n#\n", " #", "# \xe9\n"),
+    *("undo", "undo\n", "undo ", " undo", "undo 1", "Undo", "und", "undoo", "undone", "UNDO", "undo#", "undo\r"),
+    *(A, S, A + "\n" + S, S + "\n" + A, A + "\n" + C, C, A + "\n" + C + "\nundo", A + "\nundo\nundo"),
+    *("weighing", "weighing ", "sheet", "change", "w", "s", "c", "x", "1", "-", " ", "  ", "\t", "\r", "\x7f", "\xff"),
+    *("weighing 1", "weighing 1 310000 29900 9500 550000", A + " ", A + " 0", A + "0", A + "#", A + " # light"),
+    *(A + "\r", A + "\t", A + ".", A + ".0", A + "\n ", " " + A, A.replace(" ", "  ", 1), A.replace(" ", "\t", 1)),
+    *(A.replace("9500 ", "9500  "), A.replace(" ", ","), A.replace("29900", "29_900"), A.replace("29900", "29,900")),
+    *(A.replace("9500", "+9500"), A.replace("9500", "-9500"), A.replace("9500", "--9500"), A.replace("9500", "- 9500")),
+    *(A.replace("9500", "09500"), A.replace("9500", "-09500"), A.replace("9500", "0"), A.replace("9500", "-0")),
+    *(A.replace("9500", "00"), A.replace("9500", ""), A.replace("9500", "-"), A.replace("9500", "9500-")),
+    *(A.replace("9500", "95o0"), A.replace("9500", "9:00"), A.replace("9500", "9/00"), A.replace("9500", "0x9500")),
+    *(A.replace(" 1 ", " -1 "), A.replace("310000", "-310000"), A.replace("550000", "-550000"), A[:-1] + "-0"),
+    *(A[:-1] + "01", A[:-1] + "-1", A.replace("weighing", "Weighing"), A.replace("weighing", "weighin")),
+    *(A.replace("weighing", "weighings"), A.replace("weighing", "wweighing"), A.replace("weighing", "sheet")),
+    *(A.replace("weighing", "change"), A.replace("weighing", "undo"), "weighing1 310000 29900 9500 550000 0"),
+    *(S[:-2], S + " 1", S + " 1 2 3", S.replace("500000 0", "500000 -0", 1), S.replace("11200", "-11200", 1)),
+    *(S.replace("110000", "-110000", 1), S.replace("sheet", "Sheet"), S.replace("sheet", "shee"), S + "\n" + S),
+    *(A + "\n" + x for x in ("change 4500 -100000", C + " 1", C + " ", "change 4500 -100000 -1", "change +4500 0 1")),
+    *(A + "\n" + x for x in ("change -4500 100000 0", "change 0 0 0", "change -0 0 0", "change 04500 0 0", "Change 1 0 0")),
+    *(A + "\n" + x for x in ("change 999999999999999999 0 0", "change -999999999999999999 0 0", "change 1 2 3 4")),
+    *(A + "\n" + x for x in ("change 1000000000000000000 0 0", "change -1000000000000000000 0 0", "change 1 0 2")),
+    *(A + "\n" + x for x in ("change 9223372036854775807 0 0", "change -9223372036854775808 0 0", "change 4500\n-1 1")),
+    *(A + "\n" + f"change {18 * d} 0 0" for d in "0123456789"),
+    *(A + "\n" + f"change {19 * d} 0 0" for d in "0123456789"),
+    *(A + "\n" + f"change 1 -{18 * d} 0" for d in "123456789"),
+    *(A + "\n" + f"change 1 {200 * d} 0" for d in "019"),
+    *(f"weighing 1 {p} 0 0 1 0" for p in (1, 2000000, 2000001, 4294967295, 4294967296, 10**18 - 1, 10**18, 2**63, 2**64)),
+    *(A + "\n" + f"change 1 {arm} 0" for arm in (9, 10, 99, 100, 2000000, 2000001, -2000000, -2000001, -9, -10)),
+)
+
+# Where a text stops, by the number of the line.
+OF_LINES = (
+    f"# form\n\n{A}\n# sheet\n{S}\n\nchange 0 0 0\n{C}\n",
+    f"{A}\n{S}\n{C}\n\n\n\n\n# nine\nchange four\nundo\n",
+    f"\n\n\n\n\n\n\n\n\n\n{C}\n{A}",
+    f"{A}\n{S}\n{C}\nundo\n{C}\nundo\nundo\nundo\nundo\n{C}\n",
+    f"{A}\n{S}\n{C}\nundo\n{C}\nundo\nundo\n{S}",
+    f"{A}\r\n{S}\r\n",
+    f"{A}\n{S}\n\x00\n",
+    64 * f"{A}\n",
+    65 * f"{A}\n",
+    64 * f"{A}\n" + "undo\n" + f"{S}\n" + f"{S}\n",
+    100 * "#\n" + 20 * f"{A}\nundo\n" + "undo\n",
+)
+
+
+def recorded():
+    """Each call that the other programs' cases make, with the journal that it is made on."""
+    seen = []
+
+    def adding(journal, entry):
+        seen.append((tuple(journal), entry))
+        return add(journal, entry)
+
+    def undoing(journal):
+        seen.append((tuple(journal), None))
+        return undo(journal)
+
+    with contextlib.redirect_stdout(io.StringIO()):
+        for module in (cases, plates):
+            module.add, module.undo = adding, undoing
+            module.report()
+            module.add, module.undo = add, undo
+    return list(dict.fromkeys(seen))
+
+
+def text_of(journal, entry):
+    last = "undo\n" if entry is None else entry_line(entry)
+    return "".join(map(entry_line, journal)) + last
+
+
+def all_cases():
+    """Of the recorded calls on long journals every twentieth."""
+    calls = [text_of(*call) for call in recorded()]
+    short, long = [t for t in calls if len(t) <= 600], [t for t in calls if len(t) > 600]
+    texts = [*OF_A_LINE, *OF_LINES, *short, *long[::20]]
+    assert not any("~" in text for text in texts)
+    return [text.encode("latin-1") for text in texts]
+
+
+def case_line(text):
+    journal, failing = logbook(text)
+    if failing:
+        return failing.encode()
+    data, shown = file_of(journal), listing(journal)
+    assert read((), data) == (0, journal) and logbook(shown) == (journal, None)
+    counts = f"file {len(data)} {files.byte_sum(data)} again text {len(shown)} {files.byte_sum(shown)}\n"
+    return counts.encode() + (shown if len(shown) <= SHORT else b"")
+
+
+# The samples.
+
+IN_TURN = (
+    *("astir_cs", "astir_cs_two_bars", "blanik_l13_normal", "blanik_l13_aerobatic", "twin_astir", "discus"),
+    *("discus_tail_lead", "g102_astir_cs", "g103_twin_ii"),
+)
+
+
+def sample(name):
+    """The journal of a sample."""
+    journal, failing = logbook((SAMPLES / f"{name}.txt").read_bytes())
+    assert failing is None, (name, failing)
+    return journal
+
+
+def plate_of(name):
+    number, length, rows, blank, after = placard(sample(name), bytes(9216))
+    assert number == 0, (name, number)
+    return rows, blank, after[:length]
+
+
+def sample_line(name):
+    rows, blank, plate = plate_of(name)
+    length = len(file_of(sample(name)))
+    return f"{name}.txt: placard as stored, rows {rows} blank {blank}, file {length} again\n".encode()
+
+
+def figures():
+    """What the documents print of the same gliders."""
+    assert plates.ends_of(sample("astir_cs"))[0] == (71, 92)
+    assert plates.ends_of(sample("astir_cs_two_bars"))[0][0] == 66
+    least = (107, 88, 69, 50, 31, 13, 0, 0, 0, 0, 0, 0, 0, 0, 0)
+    most = (110, 110, 110, 110, 110, 110, 110, 110, 110, 105, 100, 95, 90, 80, 50)
+    weighed, limits = sample("blanik_l13_normal")
+    by_kilogram = (weighed, limits._replace(rear_step=1000))
+    assert plates.front_limits(by_kilogram) == list(zip(least, most))
+    assert plates.ends_of(sample("blanik_l13_aerobatic"))[0] == (69, 90)
+    least = (107, 89, 71, 53, 35, 17, 0, 0, 0, 0, 0, 0, 0, 0, 0)
+    weighed, limits = sample("twin_astir")
+    assert plates.front_limits((weighed, limits._replace(rear_step=1000))) == [(low, 110) for low in least]
+    assert plates.ends_of(sample("discus"))[0] == (72, 110)
+    assert plates.ends_of(sample("discus_tail_lead"))[0] == (89, 110)
+
+
+# What the programs take and print.
+
+
+def report():
+    """What `logbooks` prints."""
+    figures()
+    out = [case_line(text) for text in all_cases()] + [sample_line(name) for name in IN_TURN]
+    sys.stdout.buffer.write(b"".join(out))
+
+
+def cases_taken():
+    """What `logbooks` takes: a tilde behind each case."""
+    sys.stdout.buffer.write(b"".join(text + b"~" for text in all_cases()))
+
+
+def placards():
+    """The samples' placards, beside them."""
+    for name in IN_TURN:
+        (SAMPLES / f"{name}.placard").write_bytes(plate_of(name)[2])
+
+
+def sample_file():
+    """What `logbook` prints of the Blanik."""
+    sys.stdout.buffer.write(file_of(sample("blanik_l13_normal")))
+
+
+def sample_listing():
+    """What `show` prints of the Astir with its bars."""
+    sys.stdout.buffer.write(listing(sample("astir_cs_two_bars")))
+
+
+def sample_listing_taken():
+    """And what it takes."""
+    sys.stdout.buffer.write(file_of(sample("astir_cs_two_bars")))
