@@ -1,6 +1,6 @@
 -- A logbook that is read whole gives the journal of the calls that its lines say, and each of them gets no number: by recursion
 -- on the lines, and for each by what it says and by whether its call is refused. Assumes nothing.
-use mathlib.Core.Path.{_≡_, refl, sym, _∙_}
+use mathlib.Core.Path.{_≡_, refl, _∙_}
 use mathlib.Core.Bool.{Bool, true, false, cond, true≢false}
 use mathlib.Core.List.{List, [], _∷_}
 use Prim.Native.Nat.{ℕ, suc}
@@ -14,6 +14,7 @@ use Rattle.paper.specs.Journal.{Call, undo, callNumber, acceptedCall, afterCall
 use Rattle.language.specs.declared.Line.{Line}
 use Rattle.language.specs.declared.Line.the-variants as line
 use Rattle.language.specs.Lines.{says}
+use Rattle.book.proofs.Turns.{refused-stays, not-understood-stays}
 use Rattle.book.specs.Books.{stands, refused, notUnderstood, callOf, called, afterLine, afterLines, bookOf}
 
 -- the call that a line makes, in front of others
@@ -32,18 +33,6 @@ callsOf (l ∷ ls) = callOfLine (says l) (callsOf ls)
 abbrev Gives : List Entry → List Entry → List Call → Type 0
 Gives gs es xs = (journalFrom gs xs ≡ es) × Each (λ (n : ℕ). n ≡ 0) (numbersFrom gs xs)
 
--- ---- a line that fails ends them
-
-refused-stays : (i j n : ℕ) (ls : List (List ℕ)) → afterLines i (refused j n) ls ≡ refused j n
-unfolding afterLines
-refused-stays i j n [] = refl
-refused-stays i j n (l ∷ ls) = refl
-
-unknown-stays : (i j : ℕ) (ls : List (List ℕ)) → afterLines i (notUnderstood j) ls ≡ notUnderstood j
-unfolding afterLines
-unknown-stays i j [] = refl
-unknown-stays i j (l ∷ ls) = refl
-
 -- ---- one line
 
 module _ (i : ℕ) (gs es : List Entry) (ls : List (List ℕ)) (xs : List Call) (more : (hs : List Entry) → afterLines i (stands hs) ls ≡ stands es → Gives hs es xs) where
@@ -51,7 +40,7 @@ module _ (i : ℕ) (gs es : List Entry) (ls : List (List ℕ)) (xs : List Call) 
   call-by : (t : Bool) (x : Call) → eqb (callNumber gs x) 0 ≡ t → afterLines i (cond t (stands (acceptedCall gs x)) (refused i (callNumber gs x))) ls ≡ stands es → Gives (cond t (acceptedCall gs x) gs) es xs × (callNumber gs x ≡ 0)
   call-by true x e h = (more (acceptedCall gs x) h, eqb-true (callNumber gs x) 0 e)
   call-by false x e h =
-      let no : refused i (callNumber gs x) ≡ stands es = sym (refused-stays i i (callNumber gs x) ls) ∙ h in
+      let no : refused i (callNumber gs x) ≡ stands es = refused-stays i i (callNumber gs x) ls ∙ h in
       absurd (true≢false cc)
 
   call-gives : (x : Call) → afterLines i (called i gs x) ls ≡ stands es → Gives gs es (x ∷ xs)
@@ -64,7 +53,7 @@ module _ (i : ℕ) (gs es : List Entry) (ls : List (List ℕ)) (xs : List Call) 
   line-gives line.Undo h = call-gives undo h
   line-gives (line.Entry e) h = call-gives (callOf e) h
   line-gives line.NotUnderstood h =
-      let no : notUnderstood i ≡ stands es = sym (unknown-stays i i ls) ∙ h in
+      let no : notUnderstood i ≡ stands es = not-understood-stays i i ls ∙ h in
       absurd (true≢false cc)
 
 -- ---- the theorem

@@ -5,10 +5,10 @@ use mathlib.Core.List.{List, []}
 use Prim.Native.Nat.{ℕ, suc, _+_, _-_, _≤_, _<_}
 use native.Mathlib.Decide.{decLt}
 use native.Mathlib.Omega.{arith}
-use lib.ListN.{length, take, drop, length-drop, drop-of-length-le}
-use lib.Seq.{take-all, take-length, drop-drop}
+use lib.ListN.{length, take, drop, drop-of-length-le}
+use lib.Seq.{take-all}
 use Rattle.bytes.specs.Bytes.{indexOf, slice}
-use Rattle.laws.specs.Splits.{split, index-most, split-first, split-whole}
+use Rattle.laws.specs.Splits.{split, index-most, split-first, split-whole, part-found, rest-found, further}
 use Rattle.paper.specs.Placard.{feed}
 use Rattle.paper.specs.Refusals.{accepted, acceptedAfter}
 use Rattle.book.specs.declared.Reading.{Reading}
@@ -56,41 +56,19 @@ rest-more i o xs ys e =
     ]
 
 module _ (s : List ℕ) (at end then : ℕ) (here : at < length s) (found : end ≡ at + indexOf feed (slice at (length s) s)) (most : then ≤ length s) (behind : drop then s ≡ drop (suc end) s) where
-  index-is : indexOf feed (slice at (length s) s) ≡ indexOf feed (drop at s)
-  unfolding slice
-  index-is = ap (λ l. indexOf feed (drop at l)) (take-length s)
-
-  end-is : end ≡ at + indexOf feed (drop at s)
-  end-is = found ∙ ap (λ (i : ℕ). at + i) index-is
-
-  -- the place moves on
-  pub further : at < then
-  further =
-      let e : length s - then ≡ length s - suc end = sym (length-drop then s) ∙ ap length behind ∙ length-drop (suc end) s in
-      omega (arith, e, end-is)
-
-  behind-is : drop then s ≡ drop (suc (indexOf feed (drop at s))) (drop at s)
-  behind-is =
-      let e : suc end ≡ at + suc (indexOf feed (drop at s)) = omega (arith, end-is) in
-      behind ∙ ap (λ (i : ℕ). drop i s) e ∙ sym (drop-drop (suc (indexOf feed (drop at s))) at s)
-
-  line-is : take (end - at) (drop at s) ≡ lineAt s at
-  line-is =
-      let e : end - at ≡ indexOf feed (drop at s) = omega (arith, end-is) in ap (λ (i : ℕ). take i (drop at s)) e
-
   pub one-more : (read after : Reading) (line : ℕ) → ReadTo s read at line → after ≡ turned (line + 1) (read .log) (read .ending) (take (end - at) (drop at s)) → ReadTo s after then (line + 1)
   one-more read after line r e =
       let o = r .outcome in
       let xs = lineAt s at in
       let turn : turned (line + 1) (read .log) (read .ending) (take (end - at) (drop at s)) ≡ readingOf (next (line + 1) o xs) =
-      rw (line-is, r .is) (turned-is (line + 1) o xs (r .good)) in
+      rw (part-found feed s at end found, r .is) (turned-is (line + 1) o xs (r .good)) in
       record {
         outcome = next (line + 1) o xs;
         good = next-good (line + 1) o xs (r .good);
         is = e ∙ turn;
-        rest = rest-more line o (drop at s) (drop then s) behind-is ∙ r .rest;
+        rest = rest-more line o (drop at s) (drop then s) (behind ∙ rest-found feed s at end found) ∙ r .rest;
         within = most;
-        count = omega (arith, further, r .count);
+        count = omega (arith, further feed s at end found then here most behind, r .count);
       }
 
 -- at the end only an empty line is left

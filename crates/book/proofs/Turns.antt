@@ -30,12 +30,12 @@ next i (stands es) xs = afterLine i es (says xs)
 next i (refused j n) xs = refused j n
 next i (notUnderstood j) xs = notUnderstood j
 
-refused-stays : (i j n : ℕ) (ls : List (List ℕ)) → refused j n ≡ afterLines i (refused j n) ls
+pub refused-stays : (i j n : ℕ) (ls : List (List ℕ)) → refused j n ≡ afterLines i (refused j n) ls
 unfolding afterLines
 refused-stays i j n [] = refl
 refused-stays i j n (l ∷ ls) = refl
 
-not-understood-stays : (i j : ℕ) (ls : List (List ℕ)) → notUnderstood j ≡ afterLines i (notUnderstood j) ls
+pub not-understood-stays : (i j : ℕ) (ls : List (List ℕ)) → notUnderstood j ≡ afterLines i (notUnderstood j) ls
 unfolding afterLines
 not-understood-stays i j [] = refl
 not-understood-stays i j (l ∷ ls) = refl

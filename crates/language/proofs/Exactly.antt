@@ -2,7 +2,7 @@
 -- where it is passed over. The text of an entry gives back its values word by word, by recursion on them. Assumes nothing.
 use mathlib.Core.Path.{_≡_, refl, ap}
 use mathlib.Core.Bool.{Bool, true, false, cond, true≢false}
-use mathlib.Core.List.{List, [], _∷_, _++_, map, append-nil}
+use mathlib.Core.List.{List, [], _∷_, _++_, append-nil}
 use Prim.Native.Nat.{ℕ, zero, suc, _-_, _^_, _≤_, _<_}
 use native.Mathlib.Omega.{arith}
 use lib.Dec.{eqb}
@@ -13,7 +13,7 @@ use borrow.Author.Tests.{eq-eqb, eqb-true}
 use Rattle.bytes.specs.Bytes.{indexOf}
 use Rattle.laws.specs.Equal.{eqList, same-list, list-same}
 use Rattle.laws.specs.Lists.{Each, each-more}
-use Rattle.laws.specs.Splits.{index-first, index-none}
+use Rattle.laws.specs.Splits.{index-first, index-none, drop-part, drop-past}
 use Rattle.paper.specs.declared.Entry.{Entry}
 use Rattle.paper.specs.declared.Entry.the-variants as entry
 use Rattle.paper.specs.Placard.{space}
@@ -21,7 +21,8 @@ use Rattle.paper.specs.Rows.{joined}
 use Rattle.paper.specs.File.{kindOf, valuesOf, entryOf}
 use Rattle.numerals.specs.Numerals.{numeral, valueOf, mostDigits}
 use Rattle.numerals.proofs.Words.{numeral-above, value-back}
-use Rattle.wording.specs.Texts.{nameOf, spaced, entryText, Readable, inPlaces}
+use Rattle.wording.specs.Texts.{nameOf, entryText, Readable, inPlaces}
+use Rattle.wording.proofs.Parts.{valuesText, values-few}
 use Rattle.language.specs.declared.Line.{Line}
 use Rattle.language.specs.declared.Line.the-variants as line
 use Rattle.language.specs.Lines.{undoText, passedOver, kindNamed, firstWord, otherWords, valuesFrom, candidate, says}
@@ -29,31 +30,19 @@ use Rattle.language.proofs.Candidates.{candidate-readable}
 
 -- ---- words
 
--- the values of a text, each behind a space
-abbrev tail : List ℤ → List ℕ
-tail vs = joined (map spaced vs)
-
-behind : (ws : List ℕ) (x : ℕ) (ys : List ℕ) → drop (suc (length ws)) (ws ++ x ∷ ys) ≡ ys
-behind [] x ys = refl
-behind (w ∷ ws) x ys = behind ws x ys
-
-none-behind : (ws : List ℕ) → drop (suc (length ws)) ws ≡ []
-none-behind [] = refl
-none-behind (w ∷ ws) = none-behind ws
-
 -- no sign of a word is a space
 abbrev Word : List ℕ → Type 0
 Word ws = Each (λ (x : ℕ). space < x) ws
 
-first-word : (ws : List ℕ) (vs : List ℤ) → Word ws → firstWord (ws ++ tail vs) ≡ ws
+first-word : (ws : List ℕ) (vs : List ℤ) → Word ws → firstWord (ws ++ valuesText vs) ≡ ws
 unfolding firstWord joined
 first-word ws [] h = rw (append-nil ws, index-none space ws h) (take-all (length ws) ws (omega arith))
-first-word ws (v ∷ vs) h = rw (index-first space ws (numeral v ++ tail vs) h) (take-at ws (tail (v ∷ vs)) (length ws) refl)
+first-word ws (v ∷ vs) h = rw (index-first space ws (numeral v ++ valuesText vs) h) (take-at ws (valuesText (v ∷ vs)) (length ws) refl)
 
-other-words : (ws : List ℕ) (vs : List ℤ) → Word ws → otherWords (ws ++ tail vs) ≡ drop 1 (tail vs)
+other-words : (ws : List ℕ) (vs : List ℤ) → Word ws → otherWords (ws ++ valuesText vs) ≡ drop 1 (valuesText vs)
 unfolding otherWords joined
-other-words ws [] h = rw (append-nil ws, index-none space ws h) (none-behind ws)
-other-words ws (v ∷ vs) h = rw (index-first space ws (numeral v ++ tail vs) h) (behind ws space (numeral v ++ tail vs))
+other-words ws [] h = rw (append-nil ws, index-none space ws h) (drop-past ws)
+other-words ws (v ∷ vs) h = rw (index-first space ws (numeral v ++ valuesText vs) h) (drop-part ws space (numeral v ++ valuesText vs))
 
 no-values : (k : ℕ) → valuesFrom k [] ≡ replicate k (pos 0)
 unfolding valuesFrom firstWord otherWords valueOf indexOf
@@ -71,18 +60,13 @@ kind-named (entry.Change x) = refl
 
 name-word : (e : Entry) → Word (nameOf (kindOf e))
 unfolding nameOf
-name-word (entry.Weighing w) = (omega arith, (omega arith, (omega arith, (omega arith, (omega arith, (omega arith, (omega arith, (omega arith, tt))))))))
-name-word (entry.Sheet s) = (omega arith, (omega arith, (omega arith, (omega arith, (omega arith, tt)))))
-name-word (entry.Change x) = (omega arith, (omega arith, (omega arith, (omega arith, (omega arith, (omega arith, tt))))))
+name-word (entry.Weighing w) = omega arith
+name-word (entry.Sheet s) = omega arith
+name-word (entry.Change x) = omega arith
 
-others-text : (e : Entry) → otherWords (entryText e) ≡ drop 1 (tail (valuesOf e))
+others-text : (e : Entry) → otherWords (entryText e) ≡ drop 1 (valuesText (valuesOf e))
 unfolding entryText
 others-text e = other-words (nameOf (kindOf e)) (valuesOf e) (name-word e)
-
-few-values : (e : Entry) → length (valuesOf e) ≤ 15
-few-values (entry.Weighing w) = omega arith
-few-values (entry.Sheet s) = omega arith
-few-values (entry.Change x) = omega arith
 
 in-places : (e : Entry) → entryOf (kindOf e) (inPlaces (valuesOf e)) ≡ e
 unfolding entryOf
@@ -161,7 +145,7 @@ numeral-word : (v : ℤ) → Word (numeral v)
 numeral-word v = each-more (λ (x : ℕ). 44 < x) (λ (x : ℕ). space < x) (λ x h. omega arith) (numeral v) (numeral-above v)
 
 -- the numbers of the words are the values, and 0 behind them
-values-back : (n : ℕ) (vs : List ℤ) → length vs ≤ n → Each (λ (v : ℤ). natAbs v < 10 ^ mostDigits) vs → valuesFrom n (drop 1 (tail vs)) ≡ vs ++ replicate (n - length vs) (pos 0)
+values-back : (n : ℕ) (vs : List ℤ) → length vs ≤ n → Each (λ (v : ℤ). natAbs v < 10 ^ mostDigits) vs → valuesFrom n (drop 1 (valuesText vs)) ≡ vs ++ replicate (n - length vs) (pos 0)
 unfolding valuesFrom joined
 values-back n [] l h = let e : n - 0 ≡ n = omega arith in rw e (no-values n)
 values-back zero (v ∷ vs) l h = absurd (omega arith)
@@ -172,7 +156,7 @@ values-back (suc n) (v ∷ vs) l h =
 candidate-text : (e : Entry) → Readable e → candidate (entryText e) ≡ e
 unfolding candidate
 candidate-text e h =
-    rw (kind-named e, others-text e, values-back 15 (valuesOf e) (few-values e) h) (in-places e)
+    rw (kind-named e, others-text e, values-back 15 (valuesOf e) (values-few e) h) (in-places e)
 
 pub says-text : (e : Entry) → Readable e → says (entryText e) ≡ line.Entry e
 unfolding says

@@ -1,15 +1,13 @@
--- What a line says, by the tests of the code: whether it is passed over, by its first byte; the text of the entry, as it stands
--- in the buffer; and each answer by the tests before it. Assumes nothing.
-use mathlib.Core.Path.{_≡_, refl, ap, _∙_}
+-- What a line says, by the tests of the code: whether it is passed over, by its first byte; and each answer by the tests before
+-- it. Assumes nothing.
+use mathlib.Core.Path.{_≡_, refl}
 use mathlib.Core.Bool.{true, false}
 use mathlib.Core.List.{List, [], _∷_}
-use Prim.Native.Nat.{ℕ, _+_}
+use Prim.Native.Nat.{ℕ}
 use native.Mathlib.Omega.{arith}
 use lib.Dec.{eqb}
-use lib.ListN.{length, getD, take, drop}
-use lib.Seq.{take-at}
+use lib.ListN.{length, getD}
 use Rattle.laws.specs.Equal.{eqList}
-use Rattle.laws.specs.Written.{written, written-first}
 use Rattle.paper.specs.declared.Entry.{Entry}
 use Rattle.wording.specs.Texts.{entryText}
 use Rattle.language.specs.declared.Line.the-variants as line
@@ -31,13 +29,6 @@ pub not-passed : (xs : List ℕ) → (length xs ≡ 0 → ⊥) → eqb (getD xs 
 unfolding passedOver
 not-passed [] h e = absurd (h refl)
 not-passed (x ∷ xs) h e = e
-
--- ---- the text in the buffer
-
-pub text-put : (out last ls : List ℕ) (n : ℕ) → n ≡ 0 + length ls → last ≡ written out 0 ls → take n last ≡ ls
-text-put out last ls n e f =
-    let k : length ls ≡ n = omega (arith, e) in
-    ap (take n) (f ∙ written-first out ls) ∙ take-at ls (drop (length ls) out) n k
 
 -- ---- the answers
 

@@ -1,32 +1,27 @@
 -- The words of a line: the first goes to the first space, and the others begin behind it; each word read is one value more.
 -- Assumes nothing.
-use mathlib.Core.Path.{_≡_, sym, ap, _∙_}
+use mathlib.Core.Path.{_≡_}
 use mathlib.Core.List.{List, [], _∷_, _++_}
 use Prim.Native.Nat.{ℕ, suc, _+_, _-_, _<_}
 use native.Mathlib.Numerals.{add-one}
 use native.Mathlib.Omega.{arith}
 use lib.IntN.{ℤ}
 use lib.ListN.{length, take, drop, set}
-use lib.Seq.{take-length, take-suc-set, append-snoc, drop-drop}
+use lib.Seq.{take-suc-set, append-snoc}
 use Rattle.bytes.specs.Bytes.{indexOf, slice}
+use Rattle.laws.specs.Splits.{part-found, rest-found}
 use Rattle.paper.specs.Placard.{space}
 use Rattle.numerals.specs.Numerals.{valueOf}
 use Rattle.language.specs.Lines.{firstWord, otherWords, valuesFrom}
 
 module _ (s : List ℕ) (at end : ℕ) (e : end ≡ at + indexOf space (slice at (length s) s)) where
-  first-space : end - at ≡ indexOf space (drop at s)
-  unfolding slice
-  first-space = let f = ap (λ (l : List ℕ). indexOf space (drop at l)) (take-length s) in omega (arith, e, f)
-
   pub word-read : take (end - at) (drop at s) ≡ firstWord (drop at s)
   unfolding firstWord
-  word-read = ap (λ (k : ℕ). take k (drop at s)) first-space
+  word-read = part-found space s at end e
 
   pub others-read : drop (suc end) s ≡ otherWords (drop at s)
   unfolding otherWords
-  others-read =
-      let f : suc end ≡ at + suc (indexOf space (drop at s)) = omega (arith, first-space) in
-      ap (λ (k : ℕ). drop k s) f ∙ sym (drop-drop (suc (indexOf space (drop at s))) at s)
+  others-read = rest-found space s at end e
 
 -- the first i values, and those that are still to read
 abbrev pub readTo : List ℤ → ℕ → List ℕ → List ℤ

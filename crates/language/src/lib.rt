@@ -15,7 +15,7 @@ ghost use Rattle.paper.specs.declared.Entry.the-variants as entry;
 ghost use Rattle.paper.specs.File.{entryOf};
 ghost use Rattle.language.specs.Lines.{kindNamed, valuesFrom, candidate as Lines·candidate, says};
 
-// The longest text of an entry: a sheet's name and fifteen numbers, each with a space.
+// Room for the text of every entry: a name, and fifteen numbers of at most 21 bytes with a space before each.
 const LONGEST: usize = 338;
 
 // What a line says.

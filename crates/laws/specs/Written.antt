@@ -3,8 +3,8 @@ use mathlib.Core.Path.{_≡_, ap, _∙_, sym}
 use mathlib.Core.List.{List, [], _∷_, _++_, append-assoc, append-nil}
 use Prim.Native.Nat.{ℕ, suc, _+_, _-_, _≤_, _<_}
 use native.Mathlib.Omega.{arith}
-use lib.ListN.{length, getD, take, drop, set, length-append, length-drop, take-append-drop}
-use lib.Seq.{length-take-le, take-all, drop-length, take-suc, take-at, drop-at, drop-drop, append-snoc, set-at, set-split}
+use lib.ListN.{length, getD, take, drop, set, length-set, length-append, length-drop, take-append-drop}
+use lib.Seq.{length-take-le, take-all, take-append-seam, drop-length, take-suc, take-at, drop-at, drop-drop, append-snoc, set-at, set-split}
 
 unfoldable pub written : {A : Type 0} → List A → ℕ → List A → List A
 written s at xs = take at s ++ xs ++ drop (at + length xs) s
@@ -118,3 +118,20 @@ part-written xs ls at =
 -- what is written into the part is written into the whole
 pub written-part : {A : Type 0} (xs last ls : List A) (at : ℕ) → last ≡ written (take (length xs - at) (drop at xs)) 0 ls → take at xs ++ (last ++ drop (length xs - at) (drop at xs)) ≡ written xs at ls
 written-part xs last ls at e = rw e (part-written xs ls at)
+
+-- one element set, and the list is as long
+pub set-within : {A : Type 0} (s : List A) (i : ℕ) (x : A) (n : ℕ) → n ≤ length s → n ≤ length (set s i x)
+set-within s i x n h = omega (arith, length-set s i x)
+
+-- ---- copied, and taken again
+
+-- a copy into the front of a list
+pub written-copy : {A : Type 0} (s xs last : List A) → last ≡ take (length xs) xs ++ drop (length xs) s → last ≡ written s 0 xs
+written-copy s xs last e = rw (written-first s xs) (rw (take-all (length xs) xs (omega arith)) at e)
+
+-- what is written from the first place on stands there
+pub written-taken : {A : Type 0} (s t xs : List A) (n : ℕ) → n ≡ length xs → t ≡ written s 0 xs → take n t ≡ xs
+written-taken s t xs n e f = rw (f, e, written-first s xs) (take-append-seam xs (drop (length xs) s))
+
+pub written-fits : {A : Type 0} (s t xs : List A) (n : ℕ) → n ≡ length xs → t ≡ written s 0 xs → n ≤ length t
+written-fits s t xs n e f = rw (f, written-first s xs) (omega (arith, e, length-append xs (drop (length xs) s)))

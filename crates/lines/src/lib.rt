@@ -1,4 +1,4 @@
-// What the programs print on standard output, and parts of what they take.
+// What the programs print, on standard output where no other place is named, and parts of what they take.
 use libc::STDOUT_FILENO;
 use record::Record;
 use std::num::wrapping_add_u64;
@@ -18,6 +18,13 @@ pub fn signed(x: i64) {
     } else {
         unsigned(laws::size(x));
     }
+}
+
+// That something is refused, and by which number.
+pub fn refused(fd: i32, number: u64) {
+    io::write_all(fd, b"refused ");
+    io::print_decimal(fd, number);
+    io::write_all(fd, b"\n");
 }
 
 // Number, total, moment and centre.

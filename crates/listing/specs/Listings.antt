@@ -1,6 +1,5 @@
 -- The listing of a record: its entries as lines of a logbook, and behind each weighing and change a comment that says what it
 -- comes to.
-use mathlib.Core.Bool.{cond}
 use mathlib.Core.List.{List, [], _∷_, _++_}
 use Prim.Native.Nat.{ℕ}
 use lib.Dec.{ltb}

@@ -16,7 +16,7 @@ ghost use Rattle.wording.specs.Texts.{Readable};
 ghost use Rattle.record.specs.Held.{slotted, heldBy};
 ghost use Rattle.listing.specs.Listings.{comment, remark, linesOf, listing, listedAnswer};
 
-// The most bytes that a listing takes: 64 entries, each with its comment at its longest.
+// Room for every listing: 64 entries, each with its comment of at most 426 bytes.
 pub const LONGEST: usize = 27264;
 
 // A number behind its label. The answer is the place behind it.

@@ -1,11 +1,5 @@
-// What the programs say of input that they refuse.
+// What the programs say of a logbook that they refuse.
 use book::Ending;
-
-pub fn refused(fd: i32, number: u64) {
-    io::write_all(fd, b"refused ");
-    io::print_decimal(fd, number);
-    io::write_all(fd, b"\n");
-}
 
 fn line(fd: i32, line: usize) {
     io::write_all(fd, b"line ");
@@ -19,7 +13,7 @@ pub fn ending(fd: i32, x: Ending) {
         Ending::Whole => {}
         Ending::Refused(at, number) => {
             line(fd, at);
-            refused(fd, number);
+            lines::refused(fd, number);
         }
         Ending::NotUnderstood(at) => {
             line(fd, at);

@@ -13,7 +13,8 @@ use borrow.Author.Tests.{eq-eqb}
 use mir.Syntax.{w64}
 use mir.Val.{SFits, toZ}
 use Rattle.laws.specs.Z.{zs, is-bits, is-sub}
-use Rattle.laws.specs.Written.{written, written-behind}
+use Rattle.laws.specs.Written.{written-behind}
+use Rattle.laws.specs.Puts.{Put}
 use Rattle.paper.specs.Placard.{hyphen}
 use Rattle.numerals.specs.Numerals.{decimal, numeral, sizeOf, mostDigits, valueOf}
 use Rattle.numerals.proofs.Lengths.{length-decimal, places-some}
@@ -32,10 +33,6 @@ pub numeral-some : (x : ℤ) → 0 < length (numeral x)
 unfolding numeral
 numeral-some (pos n) = omega (arith, length-decimal n, places-some 19 n)
 numeral-some (negsuc n) = omega arith
-
--- what is put from a place on, and where it ends
-abbrev pub Put : List ℕ → ℕ → List ℕ → ℕ → List ℕ → Type 0
-Put s at xs r last = (r ≡ at + length xs) × (last ≡ written s at xs)
 
 pub put-below : (s last : List ℕ) (at r n : ℕ) (x : ℤ) → at < length s → x ≡ negsuc n → Put (set s at hyphen) (at + 1) (decimal (n + 1)) r last → Put s at (numeral x) r last
 put-below s last at r n x h e p =

@@ -1,7 +1,7 @@
 // Reads a record's file on standard input and prints its placard, or `refused `, the number and a line feed.
 use libc::STDIN_FILENO;
+use libc::STDOUT_FILENO;
 use lines::text;
-use lines::unsigned;
 use record::Record;
 
 // The longest file, that of 64 sheets.
@@ -10,17 +10,11 @@ const FILE: usize = 3910;
 // The longest placard: 256 lines.
 const PLACARD: usize = 9216;
 
-fn refused(number: u64) {
-    text(b"refused ");
-    unsigned(number);
-    text(b"\n");
-}
-
 fn print(r: Record) {
     let mut out = [0u8; PLACARD];
     let p = plate::placard(r, &mut out);
     if p.number != 0 {
-        refused(p.number);
+        lines::refused(STDOUT_FILENO, p.number);
         return;
     }
     text(lines::between(&out, 0, p.bytes));
@@ -31,12 +25,12 @@ fn main() {
     let mut input = [0u8; FILE + 1];
     let n = io::read_full(STDIN_FILENO, &mut input);
     if FILE < n {
-        refused(12);
+        lines::refused(STDOUT_FILENO, 12);
         return;
     }
     let k = file::read(Record::fresh(), &input[..n]);
     if k.number != 0 {
-        refused(k.number);
+        lines::refused(STDOUT_FILENO, k.number);
         return;
     }
     print(k.log);

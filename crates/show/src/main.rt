@@ -18,12 +18,12 @@ fn main() {
     let mut input = [0u8; FILE + 1];
     let n = io::read_full(STDIN_FILENO, &mut input);
     if FILE < n {
-        notice::refused(STDERR_FILENO, 12);
+        lines::refused(STDERR_FILENO, 12);
         return;
     }
     let k = file::read(Record::fresh(), &input[..n]);
     if k.number != 0 {
-        notice::refused(STDERR_FILENO, k.number);
+        lines::refused(STDERR_FILENO, k.number);
         return;
     }
     show(k.log);

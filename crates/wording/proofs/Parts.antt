@@ -19,7 +19,7 @@ abbrev pub valuesText : List ℤ → List ℕ
 valuesText vs = joined (map spaced vs)
 
 -- no kind has more than fifteen values
-values-few : (e : Entry) → length (valuesOf e) ≤ 15
+pub values-few : (e : Entry) → length (valuesOf e) ≤ 15
 values-few (entry.Weighing w) = omega arith
 values-few (entry.Sheet s) = omega arith
 values-few (entry.Change x) = omega arith

@@ -1,28 +1,17 @@
--- What is copied is written; and one value more behind the first i, a space before each. Assumes nothing.
+-- One value more behind the first i, a space before each. Assumes nothing.
 use mathlib.Core.Path.{_≡_, ap, _∙_}
 use mathlib.Core.List.{List, [], _∷_, _++_, map}
 use Prim.Native.Nat.{ℕ, zero, suc, _+_, _≤_, _<_}
 use native.Mathlib.Omega.{arith}
 use lib.IntN.{ℤ, pos}
-use lib.ListN.{length, getD, take, drop, set, length-append, length-set}
-use lib.Seq.{take-all}
+use lib.ListN.{length, getD, take, set, length-append}
 use Rattle.laws.specs.Lists.{map-take-more}
-use Rattle.laws.specs.Written.{written, length-written, written-first, written-more, written-behind}
+use Rattle.laws.specs.Written.{written, length-written, written-more, written-behind}
 use Rattle.paper.specs.Rows.{joined}
 use Rattle.paper.specs.Placard.{space}
 use Rattle.paper.proofs.Lists.{joined-last}
 use Rattle.numerals.specs.Numerals.{numeral}
 use Rattle.wording.specs.Texts.{spaced}
-
--- a copy into the front of a list
-pub copied : (s xs last : List ℕ) → last ≡ take (length xs) xs ++ drop (length xs) s → last ≡ written s 0 xs
-copied s xs last e = rw (written-first s xs) (rw (take-all (length xs) xs (omega arith)) at e)
-
--- one element set, and the list is as long
-pub set-within : (s : List ℕ) (i x n : ℕ) → n ≤ length s → n ≤ length (set s i x)
-set-within s i x n h = omega (arith, length-set s i x)
-
--- ---- values
 
 -- the first i values
 abbrev pub valuesTo : List ℤ → ℕ → List ℕ

@@ -9,7 +9,8 @@ use lib.ListN.{length, take, drop}
 use Rattle.bytes.specs.Bytes.{indexOf, slice}
 use Rattle.paper.specs.Placard.{feed}
 use Rattle.book.specs.Books.{turned}
-use Rattle.book.proofs.Places.{ReadTo, begun, further, one-more, all-read}
+use Rattle.laws.specs.Splits.{further}
+use Rattle.book.proofs.Places.{ReadTo, begun, one-more, all-read}
 use Rattle.book.proofs.read.Statement.{statement}
 use Rattle.book.proofs.read.Tie as tie
 
@@ -77,7 +78,7 @@ module _ (c : tie.After-behind Inv-loop μ-loop) where
 
 loop-less : tie.Need-loop-less Inv-loop μ-loop
 loop-less c =
-    let on = further (text c) (place c) (end c) (c .behind .result) (at-find c .before .loop-test .taken) (found c) (c .behind .ensures .0) (behind-feed c) in
+    let on = further feed (text c) (place c) (end c) (found c) (c .behind .result) (at-find c .before .loop-test .taken) (c .behind .ensures .0) (behind-feed c) in
     omega (arith, on, c .behind .ensures .0)
 
 loop-again : tie.Need-loop-again Inv-loop μ-loop

@@ -16,7 +16,8 @@ use Rattle.wording.specs.Texts.{entryText, Readable}
 use Rattle.wording.proofs.Plain.{text-most}
 use Rattle.language.specs.Lines.{undoText, passedOver, candidate}
 use Rattle.language.proofs.Candidates.{candidate-readable}
-use Rattle.language.proofs.Said.{passed-empty, passed-comment, not-passed, text-put, says-passed, says-undo, says-entry, says-unknown}
+use Rattle.laws.specs.Written.{written-taken}
+use Rattle.language.proofs.Said.{passed-empty, passed-comment, not-passed, says-passed, says-undo, says-entry, says-unknown}
 use Rattle.language.proofs.read_line.Statement.{statement}
 use Rattle.language.proofs.read_line.Tie as tie
 
@@ -89,7 +90,7 @@ module _ (c : tie.After-same2) where
   entry = put .before .before .candidate .result
 
   text : take (put .put-entry .result) (put .put-entry .last .0) ≡ entryText entry
-  text = text-put _ (put .put-entry .last .0) (entryText entry) (put .put-entry .result) (put .put-entry .ensures .0) (put .put-entry .ensures .1)
+  text = written-taken _ (put .put-entry .last .0) (entryText entry) (put .put-entry .result) (omega (arith, put .put-entry .ensures .0)) (put .put-entry .ensures .1)
 
   no-undo : eqList eqb line undoText ≡ false
   no-undo = sym (other .before .same .ensures) ∙ other .if3 .left

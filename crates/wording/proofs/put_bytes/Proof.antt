@@ -3,8 +3,7 @@ use borrow.Author.Needs.{needs}
 use mathlib.Core.Path.{ap}
 use Prim.Native.Nat.{ℕ, _+_, _-_}
 use lib.ListN.{length, take, drop}
-use Rattle.laws.specs.Written.{written-part}
-use Rattle.wording.proofs.Turns.{copied}
+use Rattle.laws.specs.Written.{written-part, written-copy}
 use Rattle.wording.proofs.put_bytes.Statement.{statement}
 use Rattle.wording.proofs.put_bytes.Tie as tie
 
@@ -33,7 +32,7 @@ returns c =
     let xs = a .out .now in
     let s = a .s .now in (
       ap (λ (n : ℕ). a .at + n) (p .copy .ensures .0),
-      written-part xs (p .copy .last .1 .0) s (a .at) (copied (take (length xs - a .at) (drop (a .at) xs)) s _ (p .copy .ensures .1)),
+      written-part xs (p .copy .last .1 .0) s (a .at) (written-copy (take (length xs - a .at) (drop (a .at) xs)) s _ (p .copy .ensures .1)),
     )
 
 pub put-bytes-spec : {M : Type 1} → statement M

@@ -9,10 +9,10 @@ use lib.ListN.{length, getD, length-map}
 use mir.Syntax.{w64}
 use mir.Val.{toZ, ofZ}
 use mir.Facts.{toZ-ofZ}
-use Rattle.laws.specs.Written.{written, written-none, length-written}
+use Rattle.laws.specs.Written.{written, written-none, length-written, set-within}
 use Rattle.paper.specs.Rows.{joined}
 use Rattle.numerals.specs.Numerals.{numeral}
-use Rattle.wording.proofs.Turns.{valuesTo, values-part, counted, within, set-within, put-more}
+use Rattle.wording.proofs.Turns.{valuesTo, values-part, counted, within, put-more}
 use Rattle.wording.proofs.put_values.Statement.{statement}
 use Rattle.wording.proofs.put_values.Tie as tie
 

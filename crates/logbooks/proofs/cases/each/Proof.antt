@@ -1,9 +1,9 @@
 -- `logbooks::cases::each` ends: each turn goes on to behind the next tilde. Assumes nothing.
 use borrow.Author.Needs.{needs}
-use mathlib.Core.Path.{_≡_, sym, ap, _∙_}
-use Prim.Native.Nat.{suc, _-_, _≤_}
+use Prim.Native.Nat.{_-_, _≤_}
 use native.Mathlib.Omega.{arith}
-use lib.ListN.{length, length-drop}
+use lib.ListN.{length}
+use Rattle.laws.specs.Splits.{further}
 use Rattle.logbooks.proofs.cases.each.Statement.{statement}
 use Rattle.logbooks.proofs.cases.each.Tie as tie
 
@@ -36,10 +36,11 @@ behind-requires c κs = c .before .before .find .ensures .1
 
 loop-less : tie.Need-loop-less Inv-loop μ-loop
 loop-less c =
-    let s = c .before .before .before .before .before .before .before .args .s .now in
+    let b = c .behind in
     let f = c .before .before .before .find in
-    let e : length s - c .behind .result ≡ length s - suc (f .result) = sym (length-drop (c .behind .result) s) ∙ ap length (c .behind .ensures .1) ∙ length-drop (suc (f .result)) s in
-    omega (arith, e, f .ensures .0)
+    let l = c .before .before .before .before .before in
+    let on = further 126 (l .before .before .args .s .now) (l .loop .at) (f .result) (f .ensures .0) (b .result) (omega arith) (b .ensures .0) (b .ensures .1) in
+    omega (arith, on)
 
 loop-again : tie.Need-loop-again Inv-loop μ-loop
 loop-again c = c .behind .ensures .0

@@ -1,0 +1,63 @@
+-- The listing of a list with one entry more, by recursion on the list, and of a list's first entries. Assumes nothing.
+use mathlib.Core.Path.{_≡_, refl, sym, ap, _∙_}
+use mathlib.Core.Logic.{inl, inr}
+use mathlib.Core.List.{List, [], _∷_, _++_, append-assoc, append-nil}
+use Prim.Native.Nat.{ℕ, _≤_}
+use native.Mathlib.Omega.{arith}
+use lib.ListN.{length, length-append}
+use denote.Enum.Declared.{tagOf}
+use types.Run.{OneOf}
+use Rattle.paper.specs.declared.Entry.{Entry}
+use Rattle.paper.specs.declared.Entry.the-variants as entry
+use Rattle.paper.specs.declared.Sheet.{Sheet}
+use Rattle.paper.specs.declared.CentreOfGravity.{CentreOfGravity}
+use Rattle.paper.specs.Placard.{feed}
+use Rattle.paper.specs.Answers.{centreAnswer}
+use Rattle.paper.proofs.Entry.{the-type}
+use Rattle.numerals.specs.Numerals.{decimal, numeral}
+use Rattle.wording.specs.Texts.{entryText}
+use Rattle.listing.specs.Listings.{totalText, momentText, centreText, comment, remark, linesOf, listedAfter, listing}
+
+-- the first entries of what is listed behind a list, and the others
+listed-append : (es fs gs : List Entry) → listedAfter es (fs ++ gs) ≡ listedAfter es fs ++ listedAfter (es ++ fs) gs
+unfolding listedAfter
+listed-append es [] gs = rw (append-nil es)
+listed-append es (f ∷ fs) gs =
+    let ls = linesOf (es ++ f ∷ []) f in
+    rw (listed-append (es ++ f ∷ []) fs gs, append-assoc es (f ∷ []) fs, append-assoc ls (listedAfter (es ++ f ∷ []) fs) (listedAfter (es ++ f ∷ fs) gs))
+
+pub listing-more : (fs : List Entry) (f : Entry) → listing (fs ++ f ∷ []) ≡ listing fs ++ linesOf (fs ++ f ∷ []) f
+unfolding listing listedAfter
+listing-more fs f = listed-append [] fs (f ∷ []) ∙ ap (λ (l : List ℕ). listedAfter [] fs ++ l) (append-nil (linesOf (fs ++ f ∷ []) f))
+
+-- the listing of a list's first entries is no longer than that of the whole
+pub listing-part : (fs gs : List Entry) → length (listing fs) ≤ length (listing (fs ++ gs))
+unfolding listing
+listing-part fs gs = omega (arith, ap length (listed-append [] fs gs), length-append (listedAfter [] fs) (listedAfter fs gs))
+
+-- an entry that is no sheet has a comment
+pub commented : (es : List Entry) (e : Entry) → OneOf (0 ∷ 2 ∷ []) (tagOf the-type e) → remark es e ≡ comment (centreAnswer es)
+unfolding remark
+commented es (entry.Weighing w) h = refl
+commented es (entry.Sheet s) (inl h) = absurd (omega arith)
+commented es (entry.Sheet s) (inr h) = absurd (omega arith)
+commented es (entry.Change x) h = refl
+
+-- a sheet has none
+pub uncommented : (es : List Entry) (e : Entry) (s : Sheet) → e ≡ entry.Sheet s → remark es e ≡ []
+unfolding remark
+uncommented es e s h = rw h
+
+-- the lines of an entry, its text and the line feed apart
+pub lines-parts : (es : List Entry) (e : Entry) → entryText e ++ feed ∷ [] ++ remark es e ≡ linesOf es e
+unfolding linesOf
+lines-parts es e = append-assoc (entryText e) (feed ∷ []) (remark es e)
+
+-- the labelled numbers of a comment
+pub comment-parts : (c : CentreOfGravity) → totalText ++ decimal (c .total) ++ (momentText ++ numeral (c .moment)) ++ (centreText ++ numeral (c .centre)) ++ feed ∷ [] ≡ comment c
+unfolding comment
+comment-parts c =
+    let a = totalText ++ decimal (c .total) in
+    let b = a ++ momentText ++ numeral (c .moment) in
+    ap (λ (l : List ℕ). l ++ (centreText ++ numeral (c .centre)) ++ feed ∷ []) (sym (append-assoc a momentText (numeral (c .moment))))
+    ∙ ap (λ (l : List ℕ). l ++ feed ∷ []) (sym (append-assoc b centreText (numeral (c .centre))))
