@@ -17,7 +17,7 @@ SAMPLES = Path(__file__).parent.parent / "samples"
 NAMES = {"weighing": Weighing, "sheet": Sheet, "change": Change}
 NAME_OF = {kind: name for name, kind in NAMES.items()}
 MOST_TEXT = 65536
-SHORT = 512
+SHORT = 160
 
 
 # The language: each kind's lines by a pattern of its own. A number has at most eighteen digits.
@@ -134,35 +134,42 @@ OF_LINES = (
 )
 
 
-def recorded():
-    """Each call that the other programs' cases make, with the journal that it is made on."""
-    seen = []
-
-    def adding(journal, entry):
-        seen.append((tuple(journal), entry))
-        return add(journal, entry)
-
-    def undoing(journal):
-        seen.append((tuple(journal), None))
-        return undo(journal)
-
-    with contextlib.redirect_stdout(io.StringIO()):
-        for module in (cases, plates):
-            module.add, module.undo = adding, undoing
-            module.report()
-            module.add, module.undo = add, undo
-    return list(dict.fromkeys(seen))
-
-
 def text_of(journal, entry):
+    """The lines of a journal, and of a call on it."""
     last = "undo\n" if entry is None else entry_line(entry)
     return "".join(map(entry_line, journal)) + last
 
 
+def recorded():
+    """The texts of the other programs' cases: each call with the journal that it is made on, and each file that is read."""
+    texts = []
+
+    def adding(journal, entry):
+        texts.append(text_of(journal, entry))
+        return add(journal, entry)
+
+    def undoing(journal):
+        texts.append(text_of(journal, None))
+        return undo(journal)
+
+    def reading(journal, data):
+        number, found = read(journal, data)
+        if number == 0:
+            texts.append("".join(map(entry_line, found)))
+        return number, found
+
+    with contextlib.redirect_stdout(io.StringIO()):
+        for module in (cases, files, plates):
+            module.add, module.undo, module.read = adding, undoing, reading
+            module.report()
+            module.add, module.undo, module.read = add, undo, read
+    return list(dict.fromkeys(texts))
+
+
 def all_cases():
-    """Of the recorded calls on long journals every twentieth."""
-    calls = [text_of(*call) for call in recorded()]
-    short, long = [t for t in calls if len(t) <= 600], [t for t in calls if len(t) > 600]
+    """Of the recorded texts that are long every twentieth."""
+    texts = recorded()
+    short, long = [t for t in texts if len(t) <= 600], [t for t in texts if len(t) > 600]
     texts = [*OF_A_LINE, *OF_LINES, *short, *long[::20]]
     assert not any("~" in text for text in texts)
     return [text.encode("latin-1") for text in texts]

@@ -11,7 +11,7 @@ use lib.ListN.{getD}
 use Rattle.paper.specs.File.{plainAt, entryOf}
 use Rattle.numerals.specs.Numerals.{mostDigits}
 use Rattle.numerals.proofs.Words.{value-small}
-use Rattle.wording.specs.Texts.{Readable}
+use Rattle.values.specs.Places.{Readable}
 use Rattle.language.specs.Lines.{firstWord, otherWords, kindNamed, valuesFrom, candidate}
 
 -- an entry of small values

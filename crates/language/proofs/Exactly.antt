@@ -21,7 +21,8 @@ use Rattle.paper.specs.Rows.{joined}
 use Rattle.paper.specs.File.{kindOf, valuesOf, entryOf}
 use Rattle.numerals.specs.Numerals.{numeral, valueOf, mostDigits}
 use Rattle.numerals.proofs.Words.{numeral-above, value-back}
-use Rattle.wording.specs.Texts.{nameOf, entryText, Readable, inPlaces}
+use Rattle.wording.specs.Texts.{nameOf, entryText}
+use Rattle.values.specs.Places.{Readable, inPlaces}
 use Rattle.wording.proofs.Parts.{valuesText, values-few}
 use Rattle.language.specs.declared.Line.{Line}
 use Rattle.language.specs.declared.Line.the-variants as line

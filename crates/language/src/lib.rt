@@ -1,18 +1,11 @@
 // The logbook's language: what a line says.
 use layout::FIELDS;
-use paper::Change;
 use paper::Entry;
-use paper::Sheet;
-use paper::Station;
-use paper::Weighing;
 ghost use mathlib.Core.Path.{_≡_};
 ghost use Prim.Native.Nat.{suc, _≤_};
 ghost use lib.Dec.{eqb};
-ghost use lib.IntN.{natAbs};
 ghost use lib.ListN.{length, drop};
 ghost use Rattle.laws.specs.Equal.{eqList};
-ghost use Rattle.paper.specs.declared.Entry.the-variants as entry;
-ghost use Rattle.paper.specs.File.{entryOf};
 ghost use Rattle.language.specs.Lines.{kindNamed, valuesFrom, candidate as Lines·candidate, says};
 
 // Room for the text of every entry: a name, and fifteen numbers of at most 21 bytes with a space before each.
@@ -26,74 +19,14 @@ pub enum Line {
     NotUnderstood,
 }
 
-// A value without its sign.
-fn plain(x: i64) -> u64
-    ensures { λ r. ⌜ r ≡ natAbs x ⌝ }
+// The kind whose name begins with this letter.
+fn kind_named(x: u8) -> u8
+    ensures { λ r. ⌜ r ≡ kindNamed x ⌝ }
 {
-    if x < 0 {
-        laws::under(x) + 1
-    } else {
-        laws::size(x)
-    }
-}
-
-fn weighing_of(v: [i64; FIELDS]) -> Weighing
-    ensures { λ r. ⌜ entry.Weighing r ≡ entryOf 1 v ⌝ }
-{
-    Weighing {
-        m: plain(v[0]),
-        p: plain(v[1]),
-        q: plain(v[2]),
-        a: v[3],
-        b: plain(v[4]),
-        n: plain(v[5]),
-    }
-}
-
-fn station_of(arm: i64, most: i64, step: i64) -> Station
-    ensures { λ r. ⌜ r ≡ record { arm = arm; most = natAbs most; step = natAbs step } ⌝ }
-{
-    Station {
-        arm,
-        most: plain(most),
-        step: plain(step),
-    }
-}
-
-fn sheet_of(v: [i64; FIELDS]) -> Sheet
-    ensures { λ r. ⌜ entry.Sheet r ≡ entryOf 2 v ⌝ }
-{
-    Sheet {
-        fwd: v[0],
-        aft: v[1],
-        dry: plain(v[2]),
-        wet: plain(v[3]),
-        nlp: plain(v[4]),
-        front: station_of(v[5], v[7], v[8]),
-        least: plain(v[6]),
-        rear: station_of(v[9], v[10], v[11]),
-        water: station_of(v[12], v[13], v[14]),
-    }
-}
-
-fn change_of(v: [i64; FIELDS]) -> Change
-    ensures { λ r. ⌜ entry.Change r ≡ entryOf 3 v ⌝ }
-{
-    Change {
-        c: v[0],
-        arm: v[1],
-        flag: plain(v[2]),
-    }
-}
-
-// The entry of the kind whose name begins with this letter, with these values.
-fn entry_of(letter: u8, v: [i64; FIELDS]) -> Entry
-    ensures { λ r. ⌜ r ≡ entryOf (kindNamed letter) v ⌝ }
-{
-    match letter {
-        b'w' => Entry::Weighing(weighing_of(v)),
-        b's' => Entry::Sheet(sheet_of(v)),
-        _ => Entry::Change(change_of(v)),
+    match x {
+        b'w' => 1,
+        b's' => 2,
+        _ => 3,
     }
 }
 
@@ -128,7 +61,8 @@ fn candidate(s: &[u8]) -> Entry
     ensures { λ r. ⌜ r ≡ Lines·candidate (now (s .entry)) ⌝ }
 {
     let end = bytes::scan::find(s, 0, s.len(), b' ');
-    entry_of(s[0], values_at(s, behind(s, end)))
+    let v = values_at(s, behind(s, end));
+    values::entry_of(kind_named(s[0]), v)
 }
 
 // Whether two slices hold the same bytes.

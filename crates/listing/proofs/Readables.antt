@@ -17,7 +17,7 @@ use Rattle.paper.specs.File.{Field, fieldValue, layoutOf, valuesOf}
 use Rattle.paper.specs.Refusals.{entryNumber}
 use Rattle.format.specs.Rows.{fieldsOf}
 use Rattle.format.specs.Fitting.{Fit, AllFit, done, _and_, entry-fits}
-use Rattle.wording.specs.Texts.{Readable}
+use Rattle.values.specs.Places.{Readable}
 
 -- ---- one value
 

@@ -17,7 +17,7 @@ use Rattle.record.specs.declared.Record.{Record}
 use Rattle.record.specs.Held.{entryIn, recordOf, heldBy, put}
 use Rattle.record.proofs.Turns.{room-for, accepted-append, accepted-before}
 use Rattle.record.proofs.Lists.{put-is, held-record}
-use Rattle.wording.specs.Texts.{Readable}
+use Rattle.values.specs.Places.{Readable}
 use Rattle.listing.specs.Listings.{linesOf, listing}
 use Rattle.listing.proofs.Readables.{entry-readable}
 use Rattle.listing.proofs.Turns.{listing-more, listing-part}

@@ -12,7 +12,7 @@ ghost use lib.ListN.{length};
 ghost use Rattle.laws.specs.Written.{written};
 ghost use Rattle.paper.specs.Refusals.{accepted};
 ghost use Rattle.numerals.specs.Numerals.{numeral};
-ghost use Rattle.wording.specs.Texts.{Readable};
+ghost use Rattle.values.specs.Places.{Readable};
 ghost use Rattle.record.specs.Held.{slotted, heldBy};
 ghost use Rattle.listing.specs.Listings.{comment, remark, linesOf, listing, listedAnswer};
 

@@ -14,7 +14,7 @@ use record::Record;
 const CASES: usize = 262144;
 
 // The longest listing that is printed.
-const SHORT: usize = 512;
+const SHORT: usize = 160;
 
 fn counted(label: &[u8], s: &[u8]) {
     text(label);

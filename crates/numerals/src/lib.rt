@@ -30,7 +30,7 @@ fn places(n: u64) -> usize
     let mut k = 1;
     let mut rest = n;
     while 9 < rest {
-        rest = rest / 10;
+        rest /= 10;
         k += 1;
     }
     k

@@ -11,8 +11,9 @@ use Rattle.paper.specs.declared.Entry.{Entry}
 use Rattle.paper.specs.declared.Entry.the-variants as entry
 use Rattle.paper.specs.File.{kindOf, valuesOf}
 use Rattle.paper.specs.Rows.{joined}
-use Rattle.wording.specs.declared.Values.{Values}
-use Rattle.wording.specs.Texts.{nameOf, spaced, entryText, valuesIn}
+use Rattle.values.specs.declared.Values.{Values}
+use Rattle.wording.specs.Texts.{nameOf, spaced, entryText}
+use Rattle.values.specs.Places.{valuesIn}
 
 -- values one behind the other, a space before each
 abbrev pub valuesText : List ℤ → List ℕ

@@ -1,17 +1,14 @@
 -- The text of an entry: a line of the logbook.
 use mathlib.Core.Bool.{cond}
 use mathlib.Core.List.{List, [], _∷_, _++_, map}
-use Prim.Native.Nat.{ℕ, _-_, _^_, _<_}
+use Prim.Native.Nat.{ℕ}
 use lib.Dec.{eqb}
-use lib.IntN.{ℤ, pos, natAbs}
-use lib.ListN.{length, replicate}
-use Rattle.laws.specs.Lists.{Each}
+use lib.IntN.{ℤ}
 use Rattle.paper.specs.declared.Entry.{Entry}
 use Rattle.paper.specs.Rows.{joined}
 use Rattle.paper.specs.Placard.{space}
 use Rattle.paper.specs.File.{kindOf, valuesOf}
-use Rattle.numerals.specs.Numerals.{numeral, mostDigits}
-use Rattle.wording.specs.declared.Values.{Values}
+use Rattle.numerals.specs.Numerals.{numeral}
 
 -- the name of a kind of entry: weighing, sheet, change
 unfoldable pub nameOf : ℕ → List ℕ
@@ -26,16 +23,3 @@ spaced v = space ∷ numeral v
 -- the text: the kind's name, and the values in the order of the file
 unfoldable pub entryText : Entry → List ℕ
 entryText e = nameOf (kindOf e) ++ joined (map spaced (valuesOf e))
-
--- each value has at most eighteen digits, so that it can be read
-abbrev pub Readable : Entry → Type 0
-Readable e = Each (λ (v : ℤ). natAbs v < 10 ^ mostDigits) (valuesOf e)
-
--- ---- as the code holds it
-
--- values in the first of fifteen places, 0 in the others
-abbrev pub inPlaces : List ℤ → List ℤ
-inPlaces vs = vs ++ replicate (15 - length vs) (pos 0)
-
-abbrev pub valuesIn : Entry → Values
-valuesIn e = record { count = length (valuesOf e); places = inPlaces (valuesOf e) }

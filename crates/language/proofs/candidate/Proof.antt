@@ -1,6 +1,7 @@
 -- `language::candidate` meets its contract: the values are those of the words behind the first space. Assumes nothing.
 use mathlib.Core.Path.{_≡_, ap, _∙_}
 use mathlib.Core.List.{List}
+use Prim.Native.Nat.{ℕ}
 use native.Mathlib.Omega.{arith}
 use borrow.Author.Needs.{needs}
 use lib.IntN.{ℤ}
@@ -14,14 +15,17 @@ use Rattle.language.proofs.candidate.Tie as tie
 find-requires : tie.Need-find-requires
 find-requires c κs = search needs
 
-shared-slice-read-entry-of : tie.Need-shared-slice-read-entry-of
-shared-slice-read-entry-of c = omega arith
-
 behind-requires : tie.Need-behind-requires
 behind-requires c κs = search needs
 
 values-at-requires : tie.Need-values-at-requires
 values-at-requires c κs = search needs
+
+shared-slice-read-kind-named : tie.Need-shared-slice-read-kind-named
+shared-slice-read-kind-named c = omega arith
+
+kind-named-requires : tie.Need-kind-named-requires
+kind-named-requires c κs = search needs
 
 entry-of-requires : tie.Need-entry-of-requires
 entry-of-requires c κs = search needs
@@ -29,21 +33,26 @@ entry-of-requires c κs = search needs
 returns : tie.Need-returns
 unfolding candidate
 returns c =
-    let w = c .before in
+    let k = c .before in
+    let w = k .before .before in
     let b = w .before in
-    let f = b .before .before in
+    let f = b .before in
     let s = f .before .before .args .s .now in
+    let kind : k .kind-named .result ≡ kindNamed (getD s 0 0) = k .kind-named .ensures in
     let others : drop (b .behind .result) s ≡ otherWords s = b .behind .ensures .1 ∙ others-read s 0 (f .find .result) (f .find .ensures .0) in
     let values : w .values-at .result ≡ valuesFrom 15 (otherWords s) = w .values-at .ensures ∙ ap (valuesFrom 15) others in
-    c .entry-of .ensures ∙ ap (λ (v : List ℤ). entryOf (kindNamed (getD s 0 0)) v) values
+    c .entry-of .ensures
+    ∙ ap (λ (j : ℕ). entryOf j (w .values-at .result)) kind
+    ∙ ap (λ (v : List ℤ). entryOf (kindNamed (getD s 0 0)) v) values
 
 pub candidate-spec : {M : Type 1} → statement M
 candidate-spec =
     tie.close
     (tie.spec
     find-requires
-    shared-slice-read-entry-of
     behind-requires
     values-at-requires
+    shared-slice-read-kind-named
+    kind-named-requires
     entry-of-requires
     returns)

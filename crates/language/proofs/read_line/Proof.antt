@@ -12,7 +12,8 @@ use lib.ListN.{length, take}
 use lib.Seq.{length-take-le}
 use Rattle.laws.specs.Equal.{eqList}
 use Rattle.paper.specs.declared.Entry.{Entry}
-use Rattle.wording.specs.Texts.{entryText, Readable}
+use Rattle.wording.specs.Texts.{entryText}
+use Rattle.values.specs.Places.{Readable}
 use Rattle.wording.proofs.Plain.{text-most}
 use Rattle.language.specs.Lines.{undoText, passedOver, candidate}
 use Rattle.language.proofs.Candidates.{candidate-readable}

@@ -1,10 +1,10 @@
--- `language::sheet_of` meets its contract: all but the arms are without their signs. Assumes nothing.
+-- `values::sheet_of` meets its contract: all but the arms are without their signs. Assumes nothing.
 use mathlib.Core.Path.{_≡_}
 use borrow.Author.Needs.{needs}
 use mir.Facts.{toZ-ofZ}
 use Rattle.paper.specs.File.{plainAt, stationAt, entryOf}
-use Rattle.language.proofs.sheet_of.Statement.{statement}
-use Rattle.language.proofs.sheet_of.Tie as tie
+use Rattle.values.proofs.sheet_of.Statement.{statement}
+use Rattle.values.proofs.sheet_of.Tie as tie
 
 array-copy-out-t5 : tie.Need-array-copy-out-t5
 array-copy-out-t5 c = search needs

@@ -1,13 +1,13 @@
--- `wording::values_of` meets its contract: by the kind of entry, and each kind by its own function. Assumes nothing.
+-- `values::values_of` meets its contract: by the kind of entry, and each kind by its own function. Assumes nothing.
 use borrow.Author.Needs.{needs}
 use mathlib.Core.Path.{sym, ap, _∙_}
 use mathlib.Core.List.{List}
 use Prim.Native.Nat.{ℕ}
 use lib.IntN.{ℤ}
-use Rattle.wording.specs.declared.Values.{Values}
-use Rattle.wording.specs.Texts.{valuesIn}
-use Rattle.wording.proofs.values_of.Statement.{statement}
-use Rattle.wording.proofs.values_of.Tie as tie
+use Rattle.values.specs.declared.Values.{Values}
+use Rattle.values.specs.Places.{valuesIn}
+use Rattle.values.proofs.values_of.Statement.{statement}
+use Rattle.values.proofs.values_of.Tie as tie
 
 -- so many values, in these places
 abbrev held : ℕ → List ℤ → Values

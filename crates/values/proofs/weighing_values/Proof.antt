@@ -1,10 +1,10 @@
--- `wording::weighing_values` meets its contract: its values in the table's order, each below 2 ^ 63. Assumes nothing.
+-- `values::weighing_values` meets its contract: its values in the table's order, each below 2 ^ 63. Assumes nothing.
 use borrow.Author.Needs.{needs}
 use native.Mathlib.Omega.{arith}
 use mir.Syntax.{w64}
 use mir.Facts.{toZ-ofZ, toZ-pos}
-use Rattle.wording.proofs.weighing_values.Statement.{statement}
-use Rattle.wording.proofs.weighing_values.Tie as tie
+use Rattle.values.proofs.weighing_values.Statement.{statement}
+use Rattle.values.proofs.weighing_values.Tie as tie
 
 cast-t2 : tie.Need-cast-t2
 cast-t2 c = search needs

@@ -1,0 +1,51 @@
+-- `values::entry_of` meets its contract: each kind by its own function. Assumes nothing.
+use mathlib.Core.Path.{_≡_, sym, ap, _∙_}
+use mathlib.Core.List.{List}
+use Prim.Native.Nat.{ℕ}
+use lib.IntN.{ℤ}
+use borrow.Author.Needs.{needs}
+use borrow.Author.Tests.{ne-eqb}
+use Rattle.paper.specs.File.{entryOf}
+use Rattle.values.proofs.entry_of.Statement.{statement}
+use Rattle.values.proofs.entry_of.Tie as tie
+
+-- what is neither the first kind nor the second is a change
+others : (k : ℕ) (vs : List ℤ) → (k ≡ 1 → ⊥) → (k ≡ 2 → ⊥) → entryOf 3 vs ≡ entryOf k vs
+unfolding entryOf
+others k vs a b = rw (ne-eqb k 1 a, ne-eqb k 2 b)
+
+weighing-of-requires : tie.Need-weighing-of-requires
+weighing-of-requires c κs = search needs
+
+sheet-of-requires : tie.Need-sheet-of-requires
+sheet-of-requires c κs = search needs
+
+change-of-requires : tie.Need-change-of-requires
+change-of-requires c κs = search needs
+
+returns : tie.Need-returns
+returns c =
+    let b = c .before in
+    c .weighing-of .ensures ∙ ap (λ (k : ℕ). entryOf k (b .before .args .v)) (sym (b .match .keys1))
+
+returns-2 : tie.Need-returns-2
+returns-2 c =
+    let b = c .before in
+    c .sheet-of .ensures ∙ ap (λ (k : ℕ). entryOf k (b .before .args .v)) (sym (b .match .keys2))
+
+returns-3 : tie.Need-returns-3
+returns-3 c =
+    let b = c .before in
+    let m = b .match .rest in
+    c .change-of .ensures ∙ others (b .before .args .kind) (b .before .args .v) (m .0 .1) (m .1)
+
+pub entry-of-spec : {M : Type 1} → statement M
+entry-of-spec =
+    tie.close
+    (tie.spec
+    weighing-of-requires
+    sheet-of-requires
+    change-of-requires
+    returns
+    returns-2
+    returns-3)

@@ -1,0 +1,2 @@
+-- An entry's values as the code holds them.
+pub mod Places
