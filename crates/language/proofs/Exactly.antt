@@ -1,6 +1,6 @@
 -- What a line says, exactly: an entry where the line is the entry's text and can be read, undo where it is undo, nothing
 -- where it is passed over. The text of an entry gives back its values word by word, by recursion on them. Assumes nothing.
-use mathlib.Core.Path.{_≡_, refl, ap}
+use mathlib.Core.Path.{_≡_, refl, sym, ap, _∙_}
 use mathlib.Core.Bool.{Bool, true, false, cond, true≢false}
 use mathlib.Core.List.{List, [], _∷_, _++_, append-nil}
 use Prim.Native.Nat.{ℕ, zero, suc, _-_, _^_, _≤_, _<_}
@@ -26,7 +26,7 @@ use Rattle.values.specs.Places.{Readable, inPlaces}
 use Rattle.wording.proofs.Parts.{valuesText, values-few}
 use Rattle.language.specs.declared.Line.{Line}
 use Rattle.language.specs.declared.Line.the-variants as line
-use Rattle.language.specs.Lines.{undoText, passedOver, kindNamed, firstWord, otherWords, valuesFrom, candidate, says}
+use Rattle.language.specs.Lines.{undoText, passedOver, Means, kindNamed, firstWord, otherWords, valuesFrom, candidate, says}
 use Rattle.language.proofs.Candidates.{candidate-readable}
 
 -- ---- words
@@ -179,3 +179,24 @@ says-only xs e h =
     let d = candidate xs in
     let c = eqList eqb xs (entryText d) in
     rw (← entry-is a b c d e h) (same-list eqb eqb-true xs (entryText d) (entry-by a b c d e h), candidate-readable xs)
+
+-- ---- the language, both ways
+
+pub said-is-meant : (xs : List ℕ) (l : Line) → says xs ≡ l → Means xs l
+said-is-meant xs line.Passed e = passed-only xs e
+said-is-meant xs line.Undo e = undo-only xs e
+said-is-meant xs (line.Entry d) e = says-only xs d e
+said-is-meant xs line.NotUnderstood e = not-understood xs e
+
+-- what has no meaning is not understood, whatever it says
+unknown-said : (xs : List ℕ) (l : Line) → says xs ≡ l → Means xs line.NotUnderstood → says xs ≡ line.NotUnderstood
+unknown-said xs line.Passed e m = absurd (true≢false (sym (passed-only xs e) ∙ m .0))
+unknown-said xs line.Undo e m = absurd (m .1 (undo-only xs e))
+unknown-said xs (line.Entry d) e m = let only = says-only xs d e in absurd (m .2 d (only .1) (only .0))
+unknown-said xs line.NotUnderstood e m = e
+
+pub meant-is-said : (xs : List ℕ) (l : Line) → Means xs l → says xs ≡ l
+meant-is-said xs line.Passed m = passes xs m
+meant-is-said xs line.Undo m = ap says m ∙ says-undo
+meant-is-said xs (line.Entry e) m = ap says (m .0) ∙ says-text e (m .1)
+meant-is-said xs line.NotUnderstood m = unknown-said xs (says xs) refl m

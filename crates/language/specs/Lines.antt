@@ -1,5 +1,7 @@
 -- The logbook's language. A line is the text of an entry, or `undo`, or it is passed over; every other line is not understood.
-use mathlib.Core.Bool.{Bool, true, cond}
+-- `Means` says so; `says` works it out, and crates/language/proofs/Exactly.antt shows that the two are one.
+use mathlib.Core.Path.{_≡_}
+use mathlib.Core.Bool.{Bool, true, false, cond}
 use mathlib.Core.List.{List, [], _∷_}
 use Prim.Native.Nat.{ℕ, zero, suc}
 use lib.Dec.{eqb}
@@ -11,6 +13,7 @@ use Rattle.paper.specs.declared.Entry.{Entry}
 use Rattle.paper.specs.Placard.{space}
 use Rattle.paper.specs.File.{entryOf}
 use Rattle.numerals.specs.Numerals.{valueOf}
+use Rattle.values.specs.Places.{Readable}
 use Rattle.wording.specs.Texts.{entryText}
 use Rattle.language.specs.declared.Line.{Line}
 use Rattle.language.specs.declared.Line.the-variants as line
@@ -27,6 +30,15 @@ commentSign = 35
 unfoldable pub passedOver : List ℕ → Bool
 passedOver [] = true
 passedOver (x ∷ xs) = eqb x commentSign
+
+-- the language: what a line means, by texts alone. `says` below is the one meaning that it has
+abbrev pub Means : List ℕ → Line → Type 0
+Means xs line.Passed = passedOver xs ≡ true
+Means xs line.Undo = xs ≡ undoText
+Means xs (line.Entry e) = (xs ≡ entryText e) × Readable e
+Means xs line.NotUnderstood = (passedOver xs ≡ false) × (xs ≡ undoText → ⊥) × ((e : Entry) → Readable e → xs ≡ entryText e → ⊥)
+
+-- ---- what a line says, worked out
 
 -- the kind whose name begins with this letter: w, s, or else c
 unfoldable pub kindNamed : ℕ → ℕ
