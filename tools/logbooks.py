@@ -16,7 +16,6 @@ from oracle import SIGNED
 SAMPLES = Path(__file__).parent.parent / "samples"
 NAMES = {"weighing": Weighing, "sheet": Sheet, "change": Change}
 NAME_OF = {kind: name for name, kind in NAMES.items()}
-MOST_TEXT = 65536
 SHORT = 160
 
 

@@ -19,6 +19,9 @@ ghost use Rattle.paper.specs.Journal as journal;
 ghost use Rattle.record.specs.Held.{slotted, heldBy, answered};
 ghost use Rattle.file.specs.Parts.{headerOf, headed, foundOr};
 
+// The longest file, that of 64 sheets.
+pub const LONGEST: usize = 3910;
+
 // The version of the file.
 const VERSION: u8 = 1;
 

@@ -7,11 +7,8 @@ use record::Record;
 // The longest logbook.
 const TEXT: usize = 65536;
 
-// The longest file, that of 64 sheets.
-const FILE: usize = 3910;
-
 fn write(r: Record) {
-    let mut out = [0u8; FILE];
+    let mut out = [0u8; file::LONGEST];
     let w = file::write(r, &mut out);
     lines::text(lines::between(&out, 0, w.length));
 }

@@ -1,8 +1,6 @@
 // A record's file as text, and back.
 use record::Record;
 
-pub const FILE: usize = 3910;
-
 // The logbook that the listing of a file is, read to a record.
 fn through_text(s: &[u8]) -> Record {
     let k = file::read(Record::fresh(), s);
@@ -14,7 +12,7 @@ fn through_text(s: &[u8]) -> Record {
 
 // Whether the file of that record is s again.
 pub fn same_again(s: &[u8]) -> bool {
-    let mut out = [0u8; FILE];
+    let mut out = [0u8; file::LONGEST];
     let w = file::write(through_text(s), &mut out);
     check::same(lines::between(&out, 0, w.length), s)
 }

@@ -1,6 +1,5 @@
 // The cases on standard input, a tilde behind each. A line for each: how it ends; or how many bytes its file and its listing
 // have, with their sums, and `again` where the file comes back through its text. The listing follows where it is short.
-use crate::again::FILE;
 use crate::again::same_again;
 use book::Ending;
 use libc::STDIN_FILENO;
@@ -35,7 +34,7 @@ fn listed(r: Record) {
 }
 
 fn whole(r: Record) {
-    let mut out = [0u8; FILE];
+    let mut out = [0u8; file::LONGEST];
     let w = file::write(r, &mut out);
     let s = between(&out, 0, w.length);
     counted(b"file ", s);

@@ -1,5 +1,4 @@
 // The samples: each logbook has the placard that is stored beside it, and its file comes back through its text.
-use crate::again::FILE;
 use crate::again::same_again;
 use libc::STDOUT_FILENO;
 use lines::between;
@@ -9,9 +8,6 @@ use record::Record;
 
 // Room for a sample.
 const TEXT: usize = 16384;
-
-// The longest placard: 256 lines.
-const PLACARD: usize = 9216;
 
 fn read(path: &[u8], out: &mut [u8]) -> usize {
     let fd = os::open_read(path);
@@ -25,9 +21,9 @@ fn read(path: &[u8], out: &mut [u8]) -> usize {
 }
 
 fn printed(r: Record, path: &[u8]) {
-    let mut out = [0u8; PLACARD];
+    let mut out = [0u8; plate::LONGEST];
     let p = plate::placard(r, &mut out);
-    let mut stored = [0u8; PLACARD];
+    let mut stored = [0u8; plate::LONGEST];
     let n = read(path, &mut stored);
     if check::same(between(&out, 0, p.bytes), between(&stored, 0, n)) {
         text(b" placard as stored, rows ");
@@ -40,7 +36,7 @@ fn printed(r: Record, path: &[u8]) {
 }
 
 fn filed(r: Record) {
-    let mut out = [0u8; FILE];
+    let mut out = [0u8; file::LONGEST];
     let w = file::write(r, &mut out);
     text(b", file ");
     unsigned(w.length as u64);

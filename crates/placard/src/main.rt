@@ -4,14 +4,8 @@ use libc::STDOUT_FILENO;
 use lines::text;
 use record::Record;
 
-// The longest file, that of 64 sheets.
-const FILE: usize = 3910;
-
-// The longest placard: 256 lines.
-const PLACARD: usize = 9216;
-
 fn print(r: Record) {
-    let mut out = [0u8; PLACARD];
+    let mut out = [0u8; plate::LONGEST];
     let p = plate::placard(r, &mut out);
     if p.number != 0 {
         lines::refused(STDOUT_FILENO, p.number);
@@ -22,9 +16,9 @@ fn print(r: Record) {
 
 // The buffer has one byte more than a file may have, which tells a longer input.
 fn main() {
-    let mut input = [0u8; FILE + 1];
+    let mut input = [0u8; file::LONGEST + 1];
     let n = io::read_full(STDIN_FILENO, &mut input);
-    if FILE < n {
+    if file::LONGEST < n {
         lines::refused(STDOUT_FILENO, 12);
         return;
     }

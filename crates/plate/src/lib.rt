@@ -21,6 +21,9 @@ ghost use Rattle.record.specs.Held.{slotted, heldBy};
 ghost use Rattle.plate.specs.Numbered.{waters, rowAt, lineAt, blanks};
 ghost use Rattle.plate.specs.InForce.{found};
 
+// The longest placard: 256 lines.
+pub const LONGEST: usize = 9216;
+
 // How many bytes a line has.
 const LINE: usize = 36;
 

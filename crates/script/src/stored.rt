@@ -12,7 +12,7 @@ const G: [u8; 89] = *b"\x00\x00\x00\x55\x01\x02\
 
 // The record's own file, read into a fresh record.
 pub fn read_again(r: Record) -> Kept {
-    let mut out = [0u8; 3910];
+    let mut out = [0u8; file::LONGEST];
     let w = file::write(r, &mut out);
     file::read(Record::fresh(), between(&out, 0, w.length))
 }

@@ -4,9 +4,6 @@ use libc::STDERR_FILENO;
 use libc::STDIN_FILENO;
 use record::Record;
 
-// The longest file, that of 64 sheets.
-const FILE: usize = 3910;
-
 fn show(r: Record) {
     let mut out = [0u8; listing::LONGEST];
     let w = listing::show(r, &mut out);
@@ -15,9 +12,9 @@ fn show(r: Record) {
 
 // The buffer has one byte more than a file may have, which tells a longer input.
 fn main() {
-    let mut input = [0u8; FILE + 1];
+    let mut input = [0u8; file::LONGEST + 1];
     let n = io::read_full(STDIN_FILENO, &mut input);
-    if FILE < n {
+    if file::LONGEST < n {
         lines::refused(STDERR_FILENO, 12);
         return;
     }
