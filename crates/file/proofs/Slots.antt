@@ -1,7 +1,7 @@
 -- The bytes of the entries in a record's first slots: one entry more, and how long they are. Assumes nothing.
 use mathlib.Core.Path.{_≡_}
-use mathlib.Core.List.{List, [], _∷_, _++_, map}
-use Prim.Native.Nat.{ℕ, zero, suc, _+_, _*_, _≤_, _<_}
+use mathlib.Core.List.{List, [], _∷_, _++_, map, map-map}
+use Prim.Native.Nat.{ℕ, _+_, _*_, _≤_, _<_}
 use native.Mathlib.Omega.{arith}
 use lib.ListN.{length, getD, take, length-append, length-map}
 use lib.Seq.{length-take-le}
@@ -10,7 +10,7 @@ use Rattle.laws.specs.Written.{written, written-more}
 use Rattle.paper.specs.declared.Entry.{Entry}
 use Rattle.paper.specs.File.{entryBytes}
 use Rattle.paper.specs.Rows.{joined}
-use Rattle.paper.proofs.Lists.{joined-last}
+use Rattle.paper.proofs.Lists.{joined-last, joined-part}
 use Rattle.format.specs.Entries.{entry-length, entries-length}
 use Rattle.record.specs.declared.Slot.{Slot}
 use Rattle.record.specs.Held.{entryIn}
@@ -25,12 +25,9 @@ bytesTo slots i = bytesIn (map entryIn (take i slots))
 
 -- the first i are among the first c
 pub bytes-part : (slots : List Slot) (i c : ℕ) → i ≤ c → length (bytesTo slots i) ≤ length (bytesTo slots c)
-unfolding joined
-bytes-part slots zero c h = omega arith
-bytes-part slots (suc i) zero h = absurd (omega arith)
-bytes-part [] (suc i) (suc c) h = omega arith
-bytes-part (s ∷ slots) (suc i) (suc c) h =
-    omega (arith, length-append (entryBytes (entryIn s)) (bytesTo slots i), length-append (entryBytes (entryIn s)) (bytesTo slots c), bytes-part slots i c (omega arith))
+bytes-part slots i c h =
+    rw (map-map entryBytes entryIn (take i slots), map-map entryBytes entryIn (take c slots))
+    (joined-part (λ (s : Slot). entryBytes (entryIn s)) slots i c h)
 
 module _ (slots : List Slot) (i : ℕ) (d : Slot) where
   bytes-more : i < length slots → bytesTo slots (i + 1) ≡ bytesTo slots i ++ entryBytes (entryIn (getD slots i d))

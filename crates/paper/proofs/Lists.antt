@@ -2,7 +2,7 @@
 use mathlib.Core.Path.{_≡_, refl, sym, ap, _∙_}
 use mathlib.Core.List.{List, [], _∷_, _++_, map, append-assoc, append-nil, map-map}
 use mathlib.Core.Logic.{⊎-elim}
-use Prim.Native.Nat.{ℕ, zero, suc, _+_, _*_, _/_, _%_, _<_}
+use Prim.Native.Nat.{ℕ, zero, suc, _+_, _*_, _/_, _%_, _≤_, _<_}
 use native.Mathlib.Nat.{eq-or-lt-of-le}
 use native.Mathlib.Omega.{arith}
 use lib.Arith.{digits-div, digits-mod}
@@ -38,6 +38,15 @@ pub joined-last : {A : Type 0} (xss : List (List A)) (xs : List A) → joined (x
 unfolding joined
 joined-last [] xs = append-nil xs
 joined-last (ys ∷ xss) xs = ap (λ zs. ys ++ zs) (joined-last xss xs) ∙ sym (append-assoc ys (joined xss) xs)
+
+-- the lists of the first i elements are no longer than those of the first c
+pub joined-part : {A B : Type 0} (f : A → List B) (xs : List A) (i c : ℕ) → i ≤ c → length (joined (map f (take i xs))) ≤ length (joined (map f (take c xs)))
+unfolding joined
+joined-part f xs zero c h = omega arith
+joined-part f xs (suc i) zero h = absurd (omega arith)
+joined-part f [] (suc i) (suc c) h = omega arith
+joined-part f (x ∷ xs) (suc i) (suc c) h =
+    omega (arith, length-append (f x) (joined (map f (take i xs))), length-append (f x) (joined (map f (take c xs))), joined-part f xs i c (omega arith))
 
 pub joined-more : {A : Type 0} (f : ℕ → List A) (i : ℕ) → joined (map f (below (suc i))) ≡ joined (map f (below i)) ++ f i
 joined-more f i = rw (map-below-more f i) (joined-last (map f (below i)) (f i))

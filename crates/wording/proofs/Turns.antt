@@ -1,7 +1,7 @@
 -- One value more behind the first i, a space before each. Assumes nothing.
 use mathlib.Core.Path.{_≡_, ap, _∙_}
-use mathlib.Core.List.{List, [], _∷_, _++_, map}
-use Prim.Native.Nat.{ℕ, zero, suc, _+_, _≤_, _<_}
+use mathlib.Core.List.{List, _++_, map}
+use Prim.Native.Nat.{ℕ, _+_, _≤_, _<_}
 use native.Mathlib.Omega.{arith}
 use lib.IntN.{ℤ, pos}
 use lib.ListN.{length, getD, take, set, length-append}
@@ -9,7 +9,7 @@ use Rattle.laws.specs.Lists.{map-take-more}
 use Rattle.laws.specs.Written.{written, length-written, written-more, written-behind}
 use Rattle.paper.specs.Rows.{joined}
 use Rattle.paper.specs.Placard.{space}
-use Rattle.paper.proofs.Lists.{joined-last}
+use Rattle.paper.proofs.Lists.{joined-last, joined-part}
 use Rattle.numerals.specs.Numerals.{numeral}
 use Rattle.wording.specs.Texts.{spaced}
 
@@ -19,12 +19,7 @@ valuesTo vs i = joined (map spaced (take i vs))
 
 -- the first i are among the first c
 pub values-part : (vs : List ℤ) (i c : ℕ) → i ≤ c → length (valuesTo vs i) ≤ length (valuesTo vs c)
-unfolding joined
-values-part vs zero c h = omega arith
-values-part vs (suc i) zero h = absurd (omega arith)
-values-part [] (suc i) (suc c) h = omega arith
-values-part (v ∷ vs) (suc i) (suc c) h =
-    omega (arith, length-append (spaced v) (valuesTo vs i), length-append (spaced v) (valuesTo vs c), values-part vs i c (omega arith))
+values-part = joined-part spaced
 
 module _ (vs : List ℤ) (i : ℕ) (h : i < length vs) where
   -- the value there
