@@ -21,7 +21,7 @@ use Rattle.record.specs.declared.Kept.{Kept}
 use Rattle.record.specs.Held.{recordOf, heldBy, answered}
 use Rattle.record.proofs.Lists.{held-record}
 use Rattle.record.proofs.Replays.{held-accepted}
-use Rattle.record.proofs.Turns.{at-most-64}
+use Rattle.judge.proofs.Accepted.{at-most-64}
 use Rattle.record.proofs.Calls.{kept}
 use Rattle.record.proofs.Following.{Made}
 use Rattle.file.specs.Parts.{foundOr}

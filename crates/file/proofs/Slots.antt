@@ -9,15 +9,11 @@ use Rattle.laws.specs.Lists.{map-append, map-take-more}
 use Rattle.laws.specs.Written.{written, written-more}
 use Rattle.paper.specs.declared.Entry.{Entry}
 use Rattle.paper.specs.File.{entryBytes}
-use Rattle.paper.specs.Rows.{joined}
 use Rattle.paper.proofs.Lists.{joined-last, joined-part}
 use Rattle.format.specs.Entries.{entry-length, entries-length}
+use Rattle.stored.specs.Found.{bytesIn}
 use Rattle.record.specs.declared.Slot.{Slot}
 use Rattle.record.specs.Held.{entryIn}
-
--- the bytes of some entries, one behind the other
-abbrev pub bytesIn : List Entry → List ℕ
-bytesIn es = joined (map entryBytes es)
 
 -- of the first i slots
 abbrev pub bytesTo : List Slot → ℕ → List ℕ

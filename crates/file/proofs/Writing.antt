@@ -1,58 +1,18 @@
--- What is written in all: the header, the entries behind it, and how long they are. Assumes nothing.
+-- What is written in all, and what writing answers. Assumes nothing.
 use mathlib.Core.Path.{_≡_, sym, ap, _∙_}
-use mathlib.Core.List.{List, [], _∷_, _++_, append-assoc}
-use Prim.Native.Nat.{ℕ, _+_, _-_, _≤_, _<_}
+use mathlib.Core.List.{List}
+use Prim.Native.Nat.{ℕ, _-_, _≤_, _<_}
 use native.Mathlib.Omega.{arith}
-use lib.ListN.{length, set, length-append}
+use lib.ListN.{length}
 use borrow.Author.Tests.{lt-ltb, le-ltb}
-use Rattle.laws.specs.Written.{written, length-written, written-one, written-first, written-follows}
+use Rattle.laws.specs.Written.{written, written-first, written-follows}
 use Rattle.paper.specs.declared.Entry.{Entry}
-use Rattle.paper.specs.File.{bytesOf, version, bodyBytes, fileBytes}
+use Rattle.paper.specs.File.{fileBytes}
 use Rattle.paper.specs.Refusals.{firstNumber, writingNumber}
 use Rattle.paper.specs.Answers.{over, writtenBy, writtenAnswer}
-use Rattle.format.specs.Numbers.{length-bytes}
-use Rattle.file.specs.Parts.{headerOf}
-use Rattle.file.proofs.Slots.{bytesIn}
-
-pub length-header : (n count : ℕ) → length (headerOf n count) ≡ 6
-length-header n count = omega (arith, length-append (bytesOf 4 n) (version ∷ bytesOf 1 count), length-bytes 4 n, length-bytes 1 count)
-
--- a file is its header and its entries
-pub file-parts : (es : List Entry) → fileBytes es ≡ headerOf (length (fileBytes es) - 4) (length es) ++ bytesIn es
-unfolding fileBytes bodyBytes
-file-parts es =
-    let body = bodyBytes es in
-    let size : length (fileBytes es) - 4 ≡ length body = omega (arith, length-append (bytesOf 4 (length body)) body, length-bytes 4 (length body)) in
-    rw (size) (sym (append-assoc (bytesOf 4 (length body)) (version ∷ bytesOf 1 (length es)) (bytesIn es)))
-
-pub file-size : (es : List Entry) → length (fileBytes es) ≡ 6 + length (bytesIn es)
-file-size es =
-    let n = length (fileBytes es) - 4 in
-    ap length (file-parts es) ∙ length-append (headerOf n (length es)) (bytesIn es) ∙ ap (λ (k : ℕ). k + length (bytesIn es)) (length-header n (length es))
-
--- ---- the header, as it is put: the length, the version, the count
-
-module _ (s : List ℕ) (n count : ℕ) (h : 6 ≤ length s) where
-  pub length-sized : length (written s 0 (bytesOf 4 n)) ≡ length s
-  length-sized = length-written s 0 (bytesOf 4 n) (omega (arith, length-bytes 4 n))
-
-  versioned : set (written s 0 (bytesOf 4 n)) 4 version ≡ written s 0 (bytesOf 4 n ++ version ∷ [])
-  versioned =
-      written-one (written s 0 (bytesOf 4 n)) 4 version (omega (arith, length-sized))
-      ∙ written-follows s (bytesOf 4 n) (version ∷ []) 4 (length-bytes 4 n) (omega arith)
-
-  pub header-put : written (set (written s 0 (bytesOf 4 n)) 4 version) 5 (bytesOf 1 count) ≡ written s 0 (headerOf n count)
-  header-put =
-      let five : length (bytesOf 4 n ++ version ∷ []) ≡ 5 = omega (arith, length-append (bytesOf 4 n) (version ∷ []), length-bytes 4 n) in
-      ap (λ (t : List ℕ). written t 5 (bytesOf 1 count)) versioned
-      ∙ written-follows s (bytesOf 4 n ++ version ∷ []) (bytesOf 1 count) 5 five (omega arith)
-      ∙ ap (written s 0) (append-assoc (bytesOf 4 n) (version ∷ []) (bytesOf 1 count))
-
--- it leaves the buffer's length as it is
-pub header-length : (s : List ℕ) (n count : ℕ) → 6 ≤ length s → length (written s 0 (headerOf n count)) ≡ length s
-header-length s n count h = length-written s 0 (headerOf n count) (omega (arith, length-header n count))
-
--- ---- the answers
+use Rattle.stored.specs.Header.{headerOf}
+use Rattle.stored.specs.Found.{bytesIn}
+use Rattle.stored.proofs.Parts.{length-header, file-parts, file-size}
 
 pub too-short : (es : List Entry) (s : List ℕ) → length s < length (fileBytes es) → writtenAnswer es s ≡ (record { number = 11; length = 0 }, s)
 unfolding writtenAnswer writtenBy writingNumber firstNumber

@@ -1,2 +1,2 @@
--- What reading a file answers, and the header.
+-- What reading a file answers.
 pub mod Parts

@@ -1,32 +1,26 @@
 // The record's file: writing a record into a lent buffer, and reading one back from any bytes.
 use entries::Walk;
-use judge::Judged;
-use judge::Standing;
 use paper::Written;
 use record::Kept;
 use record::Record;
-use record::Replayed;
+use record::Slot;
+use stored::HEADER;
+use stored::Stored;
 ghost use mathlib.Core.Path.{_≡_};
-ghost use mathlib.Core.List.{map};
-ghost use Prim.Native.Nat.{_≤_, _<_};
+ghost use mathlib.Core.List.{List, map};
+ghost use mathlib.Core.Option.{some};
+ghost use Prim.Native.Nat.{_≤_};
 ghost use lib.ListN.{length, drop};
 ghost use Rattle.laws.specs.Written.{written};
+ghost use Rattle.paper.specs.declared.Entry.{Entry};
 ghost use Rattle.paper.specs.File.{entryBytes, fileBytes, takeEntries};
 ghost use Rattle.paper.specs.Rows.{joined};
-ghost use Rattle.paper.specs.Refusals.{onlyAccepted};
 ghost use Rattle.paper.specs.Answers.{writtenAnswer};
 ghost use Rattle.paper.specs.Journal as journal;
-ghost use Rattle.record.specs.Held.{slotted, heldBy, answered};
-ghost use Rattle.file.specs.Parts.{headerOf, headed, foundOr};
+ghost use Rattle.record.specs.Held.{recordOf, slotted, heldBy, answered};
 
 // The longest file, that of 64 sheets.
 pub const LONGEST: usize = 3910;
-
-// The version of the file.
-const VERSION: u8 = 1;
-
-// The length, the version and the count of entries come first.
-const HEADER: usize = 6;
 
 // How many bytes the file of a record takes.
 fn length_of(r: Record) -> usize
@@ -42,16 +36,6 @@ fn length_of(r: Record) -> usize
         i += 1;
     }
     length
-}
-
-// The header: the length of all that follows it, the version, and the count of entries.
-fn put_header(out: &mut [u8], behind: usize, count: usize)
-    requires { ⌜ 6 ≤ length (now out) ⌝ }
-    ensures { λ _. ⌜ now (out .exit) ≡ written (now (out .entry)) 0 (headerOf behind count) ⌝ }
-{
-    words::put_number(out, 0, 4, behind as u64);
-    out[4] = VERSION;
-    words::put_number(out, 5, 1, count as u64);
 }
 
 // The entries of a record, one behind the other.
@@ -82,62 +66,38 @@ pub fn write(r: Record, out: &mut [u8]) -> Written
             length: 0,
         };
     }
-    put_header(out, length - 4, log.count);
+    stored::put_header(out, length - 4, log.count);
     put_entries(out, log);
     Written { number: 0, length }
 }
 
-// Whether the length and the version are right.
-fn is_headed(s: &[u8]) -> bool
-    ensures { λ b. ⌜ b ≡ headed (now (s .entry)) ⌝ }
+// A record of the entries of a file, as many as its count says.
+fn filled(s: &[u8], count: usize) -> Record
+    requires { ⌜ count ≤ 64 ⌝ }
+    ensures { λ r. ⌜ ((es : List Entry) → takeEntries count (drop 6 (now (s .entry))) ≡ some es → r ≡ recordOf es) ⌝ }
 {
-    if s.len() < HEADER {
-        return false;
-    }
-    let behind = s.len() - 4;
-    words::number_at(s, 0, 4) as usize == behind && s[4] == VERSION
-}
-
-// What stands behind the header, judged entry by entry: just as many entries as the count says, and no byte over.
-fn read_entries(r: Record, s: &[u8], count: usize) -> Kept
-    ensures { λ k. ⌜ k ≡ foundOr r (onlyAccepted (takeEntries count (drop 6 (now (s .entry))))) ⌝ }
-{
-    let mut now = Replayed {
-        log: Record::fresh(),
-        standing: Standing::Unweighed,
-    };
+    let mut log = Record::fresh();
     let mut at = HEADER;
     let mut i = 0;
     while i < count {
         let Walk::Got(entry, place) = reader::entry_at(s, at) else {
-            return Kept { number: 12, log: r };
+            return log;
         };
-        let log = now.log;
-        let standing = now.standing;
-        let Judged::Accepted(next) = judge::judge(log.count, standing, entry) else {
-            return Kept { number: 12, log: r };
-        };
-        now = Replayed {
-            log: record::appended(log, entry),
-            standing: next,
-        };
+        log.slots[i] = Slot { entry };
+        log.count = i + 1;
         at = place;
         i += 1;
     }
-    if at < s.len() {
-        return Kept { number: 12, log: r };
-    }
-    let log = now.log;
-    Kept { number: 0, log }
+    log
 }
 
 // Reading back: 12 where the bytes are no file, and then the record is as it was.
 pub fn read(r: Record, s: &[u8]) -> Kept
     ensures { λ k. ⌜ k ≡ answered r (journal.read (now (s .entry))) ⌝ }
 {
-    if !is_headed(s) {
+    let Stored::File(found) = stored::survey(s) else {
         return Kept { number: 12, log: r };
-    }
-    let count = s[5] as usize;
-    read_entries(r, s, count)
+    };
+    let log = filled(s, found.count);
+    Kept { number: 0, log }
 }

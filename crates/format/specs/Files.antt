@@ -97,7 +97,7 @@ pub read-written : (es : List Entry) → accepted es ≡ true → length es ≤ 
 unfolding fileOf accepted
 read-written es h l = rw (file-read es (each-fits [] es h) l, h)
 
-only-accepted : (o : Option (List Entry)) (es : List Entry) → onlyAccepted o ≡ some es → (accepted es ≡ true) × (o ≡ some es)
+pub only-accepted : (o : Option (List Entry)) (es : List Entry) → onlyAccepted o ≡ some es → (accepted es ≡ true) × (o ≡ some es)
 only-accepted none es h = absurd (Option·none-ne-some es h)
 only-accepted (some fs) es h =
     (rw (cond-found (accepted fs) fs es h) at (cond-passed (accepted fs) (some fs) es h), cond-kept (accepted fs) (some fs) es h)

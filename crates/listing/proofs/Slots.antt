@@ -15,7 +15,7 @@ use Rattle.paper.specs.Refusals.{entryNumber, acceptedAfter, accepted}
 use Rattle.record.specs.declared.Slot.{Slot}
 use Rattle.record.specs.declared.Record.{Record}
 use Rattle.record.specs.Held.{entryIn, recordOf, heldBy, put}
-use Rattle.record.proofs.Turns.{room-for, accepted-append, accepted-before}
+use Rattle.judge.proofs.Accepted.{room-for, accepted-append, accepted-before}
 use Rattle.record.proofs.Lists.{put-is, held-record}
 use Rattle.values.specs.Places.{Readable}
 use Rattle.listing.specs.Listings.{linesOf, listing}

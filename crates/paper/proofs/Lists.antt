@@ -1,4 +1,5 @@
--- Lists over 0, 1, .. n - 1: one more of them, lists one behind the other, and a list of lists by one index. Assumes nothing.
+-- Lists over 0, 1, .. n - 1: one more of them, lists one behind the other, a list without its last, and a
+-- list of lists by one index. Assumes nothing.
 use mathlib.Core.Path.{_≡_, refl, sym, ap, _∙_}
 use mathlib.Core.List.{List, [], _∷_, _++_, map, append-assoc, append-nil, map-map}
 use mathlib.Core.Logic.{⊎-elim}
@@ -10,6 +11,7 @@ use lib.ListN.{length, take, drop, length-append}
 use lib.Seq.{take-at, drop-at}
 use Rattle.laws.specs.Lists.{map-append}
 use Rattle.paper.specs.Rows.{below, joined}
+use Rattle.paper.specs.Journal.{withoutLast}
 
 -- one more
 pub map-below-more : {A : Type 0} (f : ℕ → A) (i : ℕ) → map f (below (suc i)) ≡ map f (below i) ++ f i ∷ []
@@ -66,6 +68,20 @@ joined-at f k h (suc n) i zs l =
     (⊎-elim (λ (e : i ≡ n). rw (e, drop-at (joined (map f (below n))) (f n ++ zs) (k * n) (length-joined f k h n)) (take-at (f n) zs k (h n)))
     (λ (m : i < n). joined-at f k h n i (f n ++ zs) m)
     (eq-or-lt-of-le (omega arith)))
+
+-- ---- a list without its last
+
+pub last-apart : {A : Type 0} (xs : List A) → 0 < length xs → (x : A) × (xs ≡ withoutLast xs ++ x ∷ [])
+unfolding withoutLast
+last-apart [] h = absurd (omega arith)
+last-apart (x ∷ []) h = (x, refl)
+last-apart (x ∷ y ∷ xs) h = let r = last-apart (y ∷ xs) (omega arith) in (r .0, ap (λ zs. x ∷ zs) (r .1))
+
+pub without-more : {A : Type 0} (xs : List A) (x : A) → withoutLast (xs ++ x ∷ []) ≡ xs
+unfolding withoutLast
+without-more [] x = refl
+without-more (y ∷ []) x = refl
+without-more (y ∷ z ∷ xs) x = ap (λ zs. y ∷ zs) (without-more (z ∷ xs) x)
 
 -- ---- m lists of n by one index: the list varies slowest, the place in it fastest
 

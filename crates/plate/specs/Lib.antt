@@ -1,3 +1,2 @@
--- The rows of a placard by their number, and the sheet in force as the code carries it.
+-- The rows of a placard by their number.
 pub mod Numbered
-pub mod InForce

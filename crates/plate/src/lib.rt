@@ -1,48 +1,36 @@
 // The placard: a line for each row of the sheet in force, into a lent buffer.
 use balance::Balance;
 use judge::Standing;
-use paper::Entry;
 use paper::Placard;
 use paper::Row;
 use paper::Sheet;
 use record::Record;
+use sheet::InForce;
 ghost use mathlib.Core.Path.{_≡_};
-ghost use mathlib.Core.Option.{orElse};
+ghost use mathlib.Core.List.{List};
+ghost use mathlib.Core.Option.{some};
 ghost use Prim.Native.Nat.{_*_, _≤_, _<_};
 ghost use lib.ListN.{length};
 ghost use Rattle.laws.specs.Written.{written};
-ghost use Rattle.paper.specs.Record.{asSheet, sheetOf};
+ghost use Rattle.paper.specs.declared.Sheet.{Sheet};
+ghost use Rattle.paper.specs.declared.Entry.{Entry};
+ghost use Rattle.paper.specs.Record.{balanceOf, sheetOf};
 ghost use Rattle.paper.specs.Rows.{rowCount};
 ghost use Rattle.paper.specs.Placard.{text, lineLength, blankCount};
 ghost use Rattle.paper.specs.Refusals.{firstNumber, sheetFaults};
 ghost use Rattle.paper.specs.Answers.{placardAnswer};
+ghost use Rattle.sheet.specs.InForce.{found};
 ghost use Rattle.balance.specs.Balance.{plain, Bounded};
+ghost use Rattle.judge.specs.Standing.{plainly, Sound};
 ghost use Rattle.record.specs.Held.{slotted, heldBy};
 ghost use Rattle.plate.specs.Numbered.{waters, rowAt, lineAt, blanks};
-ghost use Rattle.plate.specs.InForce.{found};
+
 
 // The longest placard: 256 lines.
 pub const LONGEST: usize = 9216;
 
 // How many bytes a line has.
 const LINE: usize = 36;
-
-// The sheet in force, where there is one.
-enum InForce {
-    Nothing,
-    Found(Sheet),
-}
-
-// The sheet in force behind one entry more.
-fn later(last: InForce, e: Entry) -> InForce
-    ensures { λ r. ⌜ found r ≡ orElse (asSheet e) (found last) ⌝ }
-{
-    match e {
-        Entry::Weighing(_) => last,
-        Entry::Sheet(s) => InForce::Found(s),
-        Entry::Change(_) => last,
-    }
-}
 
 // The last sheet in a record's slots.
 fn in_force(r: Record) -> InForce
@@ -54,7 +42,7 @@ fn in_force(r: Record) -> InForce
     while i < r.count {
         let slot = r.slots[i];
         let e = slot.entry;
-        last = later(last, e);
+        last = sheet::later(last, e);
         i += 1;
     }
     last
@@ -118,17 +106,16 @@ fn refused(number: u64) -> Placard
     }
 }
 
-// The placard: 7 before a weighing, 8 without a sheet, 11 where the buffer is too short, and then no byte of it changes.
-pub fn placard(r: Record, out: &mut [u8]) -> Placard
-    ensures { λ a. ⌜ (a ≡ placardAnswer (heldBy r) (now (out .entry)) .0) × (now (out .exit) ≡ placardAnswer (heldBy r) (now (out .entry)) .1) ⌝ }
+// The placard of what stands and the sheet in force: 7 before a weighing, 8 without a sheet, 11 where the buffer is too
+// short, and then no byte of it changes.
+pub fn answer(standing: Standing, sheet: InForce, out: &mut [u8]) -> Placard
+    requires { ⌜ Sound 4096 standing × ((s : Sheet) → found sheet ≡ some s → firstNumber (sheetFaults s) ≡ 0) ⌝ }
+    ensures { λ a. ⌜ ((es : List Entry) → plainly standing ≡ balanceOf es → found sheet ≡ sheetOf es → (a ≡ placardAnswer es (now (out .entry)) .0) × (now (out .exit) ≡ placardAnswer es (now (out .entry)) .1)) ⌝ }
 {
-    let now = record::replay(r);
-    let log = now.log;
-    let standing = now.standing;
     let Standing::Weighed(b) = standing else {
         return refused(7);
     };
-    let InForce::Found(s) = in_force(log) else {
+    let InForce::Found(s) = sheet else {
         return refused(8);
     };
     let rows = row_count(s);
@@ -143,4 +130,14 @@ pub fn placard(r: Record, out: &mut [u8]) -> Placard
         rows,
         blank,
     }
+}
+
+// The placard of a record.
+pub fn placard(r: Record, out: &mut [u8]) -> Placard
+    ensures { λ a. ⌜ (a ≡ placardAnswer (heldBy r) (now (out .entry)) .0) × (now (out .exit) ≡ placardAnswer (heldBy r) (now (out .entry)) .1) ⌝ }
+{
+    let now = record::replay(r);
+    let log = now.log;
+    let standing = now.standing;
+    answer(standing, in_force(log), out)
 }

@@ -14,12 +14,13 @@ use Rattle.paper.specs.declared.Entry.{Entry}
 use Rattle.paper.specs.declared.Entry.the-variants as entry
 use Rattle.paper.specs.Refusals.{entryNumber, acceptedAfter, accepted, onlyAccepted, fileOf}
 use Rattle.paper.specs.File.{laidOut}
+use Rattle.paper.proofs.Lists.{last-apart}
 use Rattle.paper.specs.Journal.{Call, weigh, install, change, undo, read, callNumber, acceptedCall, afterCall, withoutLast, entriesOr}
 use Rattle.record.specs.declared.Record.{Record}
 use Rattle.record.specs.declared.Kept.{Kept}
 use Rattle.record.specs.Held.{recordOf, heldBy, keptOr, answered}
-use Rattle.record.proofs.Turns.{accepted-more, accepted-before}
-use Rattle.record.proofs.Lists.{last-apart, held-record}
+use Rattle.judge.proofs.Accepted.{accepted-more, accepted-before}
+use Rattle.record.proofs.Lists.{held-record}
 use Rattle.record.proofs.Replays.{held-accepted}
 
 -- ---- an accepted call leaves a list that calls give

@@ -10,6 +10,7 @@ use Rattle.laws.specs.Lists.{map-append, map-back, length-more}
 use Rattle.paper.specs.declared.Entry.{Entry}
 use Rattle.paper.specs.Refusals.{accepted}
 use Rattle.paper.specs.Journal.{withoutLast}
+use Rattle.paper.proofs.Lists.{last-apart}
 use Rattle.record.specs.declared.Record.{Record}
 use Rattle.record.specs.Held.{slotOf, entryIn, unusedSlot, recordOf, slotted, heldBy, put}
 use Rattle.record.proofs.Turns.{replayed-accepted}
@@ -43,13 +44,6 @@ cleared-one es e h =
     rw (count, map-append slotOf es (e ∷ []), append-assoc (map slotOf es) (slotOf e ∷ []) (replicate (64 - length (es ++ e ∷ [])) unusedSlot), length-more es e, unused-more n h)
     (set-at (map slotOf es) (slotOf e) (replicate (64 - (n + 1)) unusedSlot) unusedSlot n (length-map es slotOf)) in
     λ i. record { slots = slots i; count = count i }
-
--- the last entry apart
-pub last-apart : (es : List Entry) → 0 < length es → (e : Entry) × (es ≡ withoutLast es ++ e ∷ [])
-unfolding withoutLast
-last-apart [] h = absurd (omega arith)
-last-apart (e ∷ []) h = (e, refl)
-last-apart (e ∷ f ∷ es) h = let r = last-apart (f ∷ es) (omega arith) in (r .0, ap (λ (l : List Entry). e ∷ l) (r .1))
 
 pub cleared-is : (es : List Entry) → 0 < length es → length es ≤ 64 → cleared (recordOf es) ≡ recordOf (withoutLast es)
 cleared-is es h k =

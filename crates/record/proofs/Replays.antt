@@ -18,7 +18,8 @@ use Rattle.record.specs.declared.Slot.{Slot}
 use Rattle.record.specs.declared.Record.{Record}
 use Rattle.record.specs.declared.Replayed.{Replayed}
 use Rattle.record.specs.Held.{entryIn, recordOf, keptBehind, replayed, slotted, heldBy, put, ReplayedAs}
-use Rattle.record.proofs.Turns.{kept-added, kept-same, replayed-more, accepted-replayed, at-most-64, room-for}
+use Rattle.judge.proofs.Accepted.{at-most-64, room-for}
+use Rattle.record.proofs.Turns.{kept-added, kept-same, replayed-more, accepted-replayed}
 use Rattle.record.proofs.Lists.{put-is}
 
 -- it begins at no entry

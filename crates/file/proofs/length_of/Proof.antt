@@ -6,7 +6,7 @@ use lib.ListN.{length, length-map}
 use Rattle.paper.specs.Rows.{joined}
 use Rattle.record.specs.Held.{slotted}
 use Rattle.file.proofs.Slots.{bytesTo, counted, one-entry, bytes-most}
-use Rattle.file.proofs.Writing.{file-size}
+use Rattle.stored.proofs.Parts.{file-size}
 use Rattle.file.proofs.length_of.Statement.{statement}
 use Rattle.file.proofs.length_of.Tie as tie
 

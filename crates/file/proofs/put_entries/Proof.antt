@@ -8,7 +8,7 @@ use Rattle.laws.specs.Written.{written, written-none, length-written}
 use Rattle.paper.specs.Rows.{joined}
 use Rattle.record.specs.Held.{slotted}
 use Rattle.file.proofs.Slots.{bytesTo, bytes-part, within, put-more, counted}
-use Rattle.file.proofs.Writing.{file-size}
+use Rattle.stored.proofs.Parts.{file-size}
 use Rattle.file.proofs.put_entries.Statement.{statement}
 use Rattle.file.proofs.put_entries.Tie as tie
 

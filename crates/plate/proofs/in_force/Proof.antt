@@ -6,7 +6,7 @@ use mathlib.Core.Path.{refl}
 use lib.ListN.{length, length-map}
 use Rattle.paper.specs.Record.{sheetOf}
 use Rattle.record.specs.Held.{slotted}
-use Rattle.plate.specs.InForce.{found}
+use Rattle.sheet.specs.InForce.{found}
 use Rattle.plate.proofs.Sheets.{sheetTo, slot-more}
 use Rattle.plate.proofs.in_force.Statement.{statement}
 use Rattle.plate.proofs.in_force.Tie as tie

@@ -1,4 +1,4 @@
--- `file::put_header` meets its contract: three parts, one behind the other. Assumes nothing.
+-- `stored::put_header` meets its contract: three parts, one behind the other. Assumes nothing.
 use mathlib.Core.Path.{_≡_, ap, _∙_}
 use mathlib.Core.List.{List}
 use Prim.Native.Nat.{ℕ}
@@ -7,10 +7,10 @@ use borrow.Author.Needs.{needs}
 use lib.ListN.{length, set, length-set}
 use Rattle.laws.specs.Written.{written, length-written}
 use Rattle.paper.specs.File.{bytesOf}
-use Rattle.file.specs.Parts.{headerOf}
-use Rattle.file.proofs.Writing.{length-header, length-sized, header-put}
-use Rattle.file.proofs.put_header.Statement.{statement}
-use Rattle.file.proofs.put_header.Tie as tie
+use Rattle.stored.specs.Header.{headerOf}
+use Rattle.stored.proofs.Parts.{length-header, length-sized, header-put}
+use Rattle.stored.proofs.put_header.Statement.{statement}
+use Rattle.stored.proofs.put_header.Tie as tie
 
 put-number-requires : tie.Need-put-number-requires
 put-number-requires c κs = search needs

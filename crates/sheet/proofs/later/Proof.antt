@@ -1,8 +1,8 @@
--- `plate::later` meets its contract, by the kind of the entry. Assumes nothing.
+-- `sheet::later` meets its contract, by the kind of the entry. Assumes nothing.
 use borrow.Author.Needs.{needs}
 use mathlib.Core.Option.{orElse}
-use Rattle.plate.proofs.later.Statement.{statement}
-use Rattle.plate.proofs.later.Tie as tie
+use Rattle.sheet.proofs.later.Statement.{statement}
+use Rattle.sheet.proofs.later.Tie as tie
 
 enum-told : tie.Need-enum-told
 enum-told c = search needs

@@ -1,9 +1,9 @@
--- `file::is_headed` meets its contract: its tests are those of the header, in its order. Assumes nothing.
+-- `stored::is_headed` meets its contract: its tests are those of the header, in its order. Assumes nothing.
 use borrow.Author.Needs.{needs}
 use mathlib.Core.Path.{sym}
-use Rattle.file.proofs.Headers.{too-few, by-version, by-length}
-use Rattle.file.proofs.is_headed.Statement.{statement}
-use Rattle.file.proofs.is_headed.Tie as tie
+use Rattle.stored.proofs.Headers.{too-few, by-version, by-length}
+use Rattle.stored.proofs.is_headed.Statement.{statement}
+use Rattle.stored.proofs.is_headed.Tie as tie
 
 returns : tie.Need-returns
 returns c = sym (too-few (c .before .before .args .s .now) (c .if1 .taken))

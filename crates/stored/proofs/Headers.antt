@@ -1,8 +1,8 @@
 -- Which bytes have a right header, and what they are laid out as then: by the paper's tests, in its order. Assumes nothing.
-use mathlib.Core.Path.{_≡_, refl, sym, _∙_}
-use mathlib.Core.Bool.{true, false, cond, _&&_, and-false}
+use mathlib.Core.Path.{_≡_, refl, sym, ap, _∙_}
+use mathlib.Core.Bool.{Bool, true, false, cond, _&&_, and-false}
 use mathlib.Core.List.{List, [], _∷_}
-use mathlib.Core.Option.{none, bind}
+use mathlib.Core.Option.{none, some, bind, Option·none-ne-some}
 use Prim.Native.Nat.{ℕ, _-_, _≤_, _<_}
 use native.Mathlib.Decide.{decLe}
 use native.Mathlib.Omega.{arith}
@@ -13,8 +13,13 @@ use lib.Seq.{drop-drop, getD-drop}
 use borrow.Author.Tests.{le-leb, lt-leb, leb-true, eq-eqb, ne-eqb}
 use Rattle.laws.specs.Options.{none-either, tests-both}
 use Rattle.laws.specs.Tests.{left}
+use Rattle.paper.specs.declared.Entry.{Entry}
 use Rattle.paper.specs.File.{numberOf, version, takeNumber, takeEntries, takeBody, laidOut}
-use Rattle.file.specs.Parts.{headed}
+use Rattle.paper.specs.Refusals.{onlyAccepted, fileOf}
+use Rattle.format.specs.Numbers.{bytes-drop}
+use Rattle.format.specs.Entries.{entries-written}
+use Rattle.format.specs.Files.{only-accepted}
+use Rattle.stored.specs.Header.{headed}
 
 pub too-few : (xs : List ℕ) → length xs < 6 → headed xs ≡ false
 unfolding headed
@@ -80,9 +85,30 @@ module _ (xs : List ℕ) where
         | no k ↦ rw (lt-leb 4 (length xs) (omega arith), none-either (areBytes xs))
       ]
 
-  pub by-header : areBytes xs ≡ true → laidOut xs ≡ cond (headed xs) (takeEntries (getD xs 5 0) (drop 6 xs)) none
+  by-header : areBytes xs ≡ true → laidOut xs ≡ cond (headed xs) (takeEntries (getD xs 5 0) (drop 6 xs)) none
   by-header b =
       elim (decLe 6 (length xs)) as (λ d. laidOut xs ≡ cond (headed xs) (takeEntries (getD xs 5 0) (drop 6 xs)) none) [
         | yes k ↦ rw b at (enough k)
         | no k ↦ too-short (omega arith) ∙ rw (too-few xs (omega arith))
       ]
+
+  -- whether they are a file
+  module _ (b : areBytes xs ≡ true) where
+    pub bad-header : headed xs ≡ false → fileOf xs ≡ none
+    unfolding fileOf
+    bad-header e = ap onlyAccepted (rw e at (by-header b))
+
+    pub good-header : headed xs ≡ true → fileOf xs ≡ onlyAccepted (takeEntries (getD xs 5 0) (drop 6 xs))
+    unfolding fileOf
+    good-header e = ap onlyAccepted (rw e at (by-header b))
+
+    -- the entries of a file stand behind its header
+    entries-by : (t : Bool) → headed xs ≡ t → (es : List Entry) → fileOf xs ≡ some es → takeEntries (length es) (drop 6 xs) ≡ some es
+    entries-by true e es h =
+        let k = only-accepted (takeEntries (getD xs 5 0) (drop 6 xs)) es (sym (good-header e) ∙ h) .1 in
+        let n = entries-written (getD xs 5 0) (drop 6 xs) es (bytes-drop 6 xs b) k .1 in
+        rw n at k
+    entries-by false e es h = absurd (Option·none-ne-some es (sym (bad-header e) ∙ h))
+
+    pub entries-of : (es : List Entry) → fileOf xs ≡ some es → takeEntries (length es) (drop 6 xs) ≡ some es
+    entries-of es h = entries-by (headed xs) refl es h

@@ -1,0 +1,114 @@
+-- `plate::answer` meets its contract: each way out is the definition on what settles it, for every list of which that stands.
+-- Assumes nothing.
+use borrow.Author.Needs.{needs}
+use mathlib.Core.Path.{_≡_, sym, ap, _∙_}
+use mathlib.Core.List.{List}
+use mathlib.Core.Option.{some}
+use Prim.Native.Nat.{_*_}
+use native.Mathlib.Omega.{arith}
+use Rattle.paper.specs.declared.Entry.{Entry}
+use Rattle.paper.specs.Record.{balanceOf, sheetOf}
+use Rattle.paper.specs.Placard.{textLength}
+use Rattle.paper.specs.Refusals.{firstNumber, sheetFaults}
+use Rattle.sheet.specs.InForce.{found}
+use Rattle.balance.specs.Balance.{plain, Bounded}
+use Rattle.judge.specs.Standing.{plainly}
+use Rattle.judge.proofs.Judging.{of-weighed}
+use Rattle.plate.proofs.Answers.{unweighed, no-sheet, too-short, refused-as, given-as}
+use Rattle.plate.proofs.answer.Statement.{statement}
+use Rattle.plate.proofs.answer.Tie as tie
+
+enum-known-standing : tie.Need-enum-known-standing
+enum-known-standing c = search needs
+
+enum-told : tie.Need-enum-told
+enum-told c = search needs
+
+refused-requires : tie.Need-refused-requires
+refused-requires c κs = search needs
+
+returns : tie.Need-returns
+returns c es w f =
+    refused-as _ _ _ _ (c .refused .ensures) (unweighed _ _ (sym w ∙ ap plainly (c .before .enum-told .given .1)))
+
+-- a weighing stands
+module _ (c : tie.After-known-told) where
+  weighed : (es : List Entry) → plainly (c .before .before .before .before .args .standing) ≡ balanceOf es → balanceOf es ≡ some (plain (c .before .standing .given .0 .0))
+  weighed es w = sym w ∙ ap plainly (c .before .standing .given .1)
+
+  bounded : Bounded 4096 (c .before .standing .given .0 .0)
+  bounded = of-weighed 4096 _ _ (c .before .standing .given .1) (c .before .before .before .before .pre .0)
+
+enum-known-sheet : tie.Need-enum-known-sheet
+enum-known-sheet c = search needs
+
+enum-told-2 : tie.Need-enum-told-2
+enum-told-2 c = search needs
+
+refused-requires-2 : tie.Need-refused-requires-2
+refused-requires-2 c κs = search needs
+
+returns-2 : tie.Need-returns-2
+returns-2 c es w f =
+    refused-as _ _ _ _ (c .refused2 .ensures) (no-sheet _ _ _ (weighed (c .before .before .before) es w) (sym f ∙ ap found (c .before .enum-told2 .given .1)))
+
+-- a sheet stands
+module _ (c : tie.After-known-told2) where
+  sheet : (es : List Entry) → found (c .before .before .before .before .before .before .before .args .sheet) ≡ sheetOf es → sheetOf es ≡ some (c .before .sheet .given .0 .0)
+  sheet es f = sym f ∙ ap found (c .before .sheet .given .1)
+
+  accepted : firstNumber (sheetFaults (c .before .sheet .given .0 .0)) ≡ 0
+  accepted = c .before .before .before .before .before .before .before .pre .1 _ (ap found (c .before .sheet .given .1))
+
+row-count-requires : tie.Need-row-count-requires
+row-count-requires c κs = accepted c
+
+mul-bytes : tie.Need-mul-bytes
+mul-bytes c = search needs
+
+refused-requires-3 : tie.Need-refused-requires-3
+refused-requires-3 c κs = search needs
+
+returns-3 : tie.Need-returns-3
+unfolding textLength
+returns-3 c es w f =
+    let n = c .before .before in
+    let s = n .before in
+    refused-as _ _ _ _ (c .refused3 .ensures) (too-short _ _ _ (weighed (s .before .before .before) es w) _ (sheet s es f) (omega (arith, n .row-count .ensures)))
+
+put-rows-requires : tie.Need-put-rows-requires
+put-rows-requires c κs =
+    let n = c .before .before in
+    let s = n .before in
+    (accepted s, bounded (s .before .before .before), n .row-count .ensures .0, omega (arith, n .row-count .ensures))
+
+same-length : tie.Need-same-length
+same-length c = search needs
+
+returns-4 : tie.Need-returns-4
+unfolding textLength
+returns-4 c es w f =
+    let p = c .before .before in
+    let n = p .before .before .before in
+    let s = n .before in
+    given-as _ _ _ _ _ _ _ _ (weighed (s .before .before .before) es w) (sheet s es f) (omega (arith, n .row-count .ensures)) (ap (λ k. 36 * k) (n .row-count .ensures .0)) (n .row-count .ensures .0) (p .put-rows .ensures .0) (p .put-rows .ensures .1)
+
+pub answer-spec : {M : Type 1} → statement M
+answer-spec =
+    tie.close
+    (tie.spec
+    enum-known-standing
+    enum-told
+    refused-requires
+    returns
+    enum-known-sheet
+    enum-told-2
+    refused-requires-2
+    returns-2
+    row-count-requires
+    mul-bytes
+    refused-requires-3
+    returns-3
+    put-rows-requires
+    same-length
+    returns-4)

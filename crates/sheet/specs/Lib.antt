@@ -1,0 +1,2 @@
+-- The sheet in force as the code carries it.
+pub mod InForce

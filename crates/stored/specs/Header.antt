@@ -1,0 +1,15 @@
+-- The header of a file, as it is written and as it is judged.
+use mathlib.Core.Bool.{Bool, _&&_}
+use mathlib.Core.List.{List, _∷_, _++_}
+use Prim.Native.Nat.{ℕ, _-_}
+use lib.Dec.{leb, eqb}
+use lib.ListN.{length, getD, take}
+use Rattle.paper.specs.File.{bytesOf, numberOf, version}
+
+-- the length of all that follows it, the version and the count of entries
+abbrev pub headerOf : ℕ → ℕ → List ℕ
+headerOf n count = bytesOf 4 n ++ version ∷ bytesOf 1 count
+
+-- there is room for a header, its length is right, and so is the version
+unfoldable pub headed : List ℕ → Bool
+headed xs = leb 6 (length xs) && eqb (numberOf (take 4 xs)) (length xs - 4) && eqb (getD xs 4 0) version

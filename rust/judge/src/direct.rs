@@ -1,0 +1,586 @@
+//! The same answers, solved directly, on a record lent as its file.
+//!
+//! The record is the file at the front of a byte buffer: its first 4 + L bytes,
+//! where L is the number in the first four. What stands behind it is free and
+//! is left alone. A buffer that ends before 4 + L bytes, or whose front is not
+//! the file of any record, holds no record: number 12. On a refusal no byte of
+//! any buffer changes.
+//!
+//! All numbers fit in 64 bits once their ranges are tested. The moment of a
+//! weighing is at most 2·(2e6·2e6) = 8e12 either way, and 63 changes add at
+//! most 63·4e12, so M stays below 2.6e14. A front and a rear load add 1e12
+//! each and the water 4e12, so S stays below 2.7e14 and 20·S below 5.4e15. On
+//! the other side T is at most 2e6 + 5e5 + 5e5 + 2e6 = 5e6 and 19·AFT + FWD at
+//! most 4e7, so their product is at most 2e14. An `i64` holds 9.2e18.
+
+use crate::paper::{Call, Centre, Change, Counts, Sheet, Weighing};
+
+const WEIGHT: u64 = 2_000_000;
+const ARM: i64 = 2_000_000;
+const LOAD: u64 = 500_000;
+const MOST_ROWS: u64 = 256;
+const MOST_ENTRIES: u8 = 64;
+
+/// Bytes of the length field, and of all that stands before the entries.
+const LENGTH: usize = 4;
+const HEAD: usize = 6;
+/// Bytes of an entry with its kind byte.
+const WEIGHING: usize = 22;
+const SHEET: usize = 61;
+const CHANGE: usize = 10;
+/// Bytes of a line and of one of its fields.
+const LINE: usize = 36;
+const FIELD: usize = 8;
+
+/// An accepted call, or the number of its refusal.
+type Answer<T> = Result<T, u64>;
+
+// ---- The three entries and their conditions ----
+
+/// G, M and n of the last weighing and the changes behind it.
+#[derive(Clone, Copy)]
+struct Sums {
+    g: i64,
+    m: i64,
+    n: i64,
+}
+
+fn is_arm(arm: i64) -> bool {
+    (-ARM..=ARM).contains(&arm)
+}
+
+fn is_total(g: i64) -> bool {
+    (1..=WEIGHT as i64).contains(&g)
+}
+
+/// A weighing's sums; refused with 1, 2 or 3.
+fn weigh(w: &Weighing) -> Answer<Sums> {
+    if w.p > WEIGHT || w.q > WEIGHT {
+        return Err(1);
+    }
+    let (p, q) = (w.p as i64, w.q as i64);
+    let g = match w.m {
+        1 | 2 if q <= p => p,
+        3 => p + q,
+        4 => p - q,
+        _ => return Err(1),
+    };
+    if !is_total(g) {
+        return Err(1);
+    }
+    if !is_arm(w.a) || !(1..=ARM as u64).contains(&w.b) {
+        return Err(2);
+    }
+    if w.n > g as u64 {
+        return Err(3);
+    }
+    let (a, b, n) = (w.a, w.b as i64, w.n as i64);
+    let m = match w.m {
+        1 => p * a + q * b,
+        2 => (p - q) * b - p * a,
+        3 => q * b - g * a,
+        _ => g * a - q * b,
+    };
+    Ok(Sums { g, m, n })
+}
+
+/// Refused with 2, 4 or 5.
+fn install(s: &Sheet) -> Answer<()> {
+    let arms = [s.fwd, s.aft, s.front_arm, s.rear_arm, s.water_arm];
+    if !arms.into_iter().all(is_arm) {
+        return Err(2);
+    }
+    let ranges = s.fwd < s.aft
+        && 1 <= s.dry
+        && s.dry <= s.wet
+        && s.wet <= WEIGHT
+        && s.nlp <= WEIGHT
+        && s.front_least <= s.front_most
+        && s.front_most <= LOAD
+        && s.rear_most <= LOAD
+        && s.capacity <= WEIGHT;
+    if !ranges {
+        return Err(4);
+    }
+    let steps = (1..=LOAD).contains(&s.front_step)
+        && (1..=LOAD).contains(&s.rear_step)
+        && (1..=WEIGHT).contains(&s.water_step);
+    if !steps || rears(s) * waters(s) > MOST_ROWS {
+        return Err(5);
+    }
+    Ok(())
+}
+
+/// Rear loads of a sheet, at most 500,001: the ranges are tested before.
+fn rears(s: &Sheet) -> u64 {
+    s.rear_most / s.rear_step + 1
+}
+
+/// Waters of a sheet, at most 2,000,001.
+fn waters(s: &Sheet) -> u64 {
+    s.capacity / s.water_step + 1
+}
+
+/// The sums after a change; refused with 7, 2, 6 or 3.
+fn change(before: Option<Sums>, change: &Change) -> Answer<Sums> {
+    let before = before.ok_or(7u64)?;
+    if !is_arm(change.arm) {
+        return Err(2);
+    }
+    let c = change.c;
+    if c == 0 || c.unsigned_abs() > WEIGHT || change.flag > 1 {
+        return Err(6);
+    }
+    let g = before.g + c;
+    if !is_total(g) {
+        return Err(6);
+    }
+    let n = before.n + c * change.flag as i64;
+    if !(0..=g).contains(&n) {
+        return Err(3);
+    }
+    let m = before.m + c * change.arm;
+    Ok(Sums { g, m, n })
+}
+
+// ---- The file ----
+
+fn unsigned<const N: usize>(bytes: &[u8; N], at: usize) -> u64 {
+    u64::from(u32::from_be_bytes([
+        bytes[at],
+        bytes[at + 1],
+        bytes[at + 2],
+        bytes[at + 3],
+    ]))
+}
+
+fn signed<const N: usize>(bytes: &[u8; N], at: usize) -> i64 {
+    i64::from(unsigned(bytes, at) as u32 as i32)
+}
+
+fn weighing_from(bytes: &[u8; WEIGHING]) -> Weighing {
+    Weighing {
+        m: u64::from(bytes[1]),
+        p: unsigned(bytes, 2),
+        q: unsigned(bytes, 6),
+        a: signed(bytes, 10),
+        b: unsigned(bytes, 14),
+        n: unsigned(bytes, 18),
+    }
+}
+
+fn sheet_from(bytes: &[u8; SHEET]) -> Sheet {
+    Sheet {
+        fwd: signed(bytes, 1),
+        aft: signed(bytes, 5),
+        dry: unsigned(bytes, 9),
+        wet: unsigned(bytes, 13),
+        nlp: unsigned(bytes, 17),
+        front_arm: signed(bytes, 21),
+        front_least: unsigned(bytes, 25),
+        front_most: unsigned(bytes, 29),
+        front_step: unsigned(bytes, 33),
+        rear_arm: signed(bytes, 37),
+        rear_most: unsigned(bytes, 41),
+        rear_step: unsigned(bytes, 45),
+        water_arm: signed(bytes, 49),
+        capacity: unsigned(bytes, 53),
+        water_step: unsigned(bytes, 57),
+    }
+}
+
+fn change_from(bytes: &[u8; CHANGE]) -> Change {
+    Change {
+        c: signed(bytes, 1),
+        arm: signed(bytes, 5),
+        flag: u64::from(bytes[9]),
+    }
+}
+
+/// Puts the low four bytes of a field: accepted values fit, and a negative one
+/// is then in two's complement.
+fn put<const N: usize>(bytes: &mut [u8; N], at: usize, field: u64) {
+    bytes[at..at + 4].copy_from_slice(&(field as u32).to_be_bytes());
+}
+
+fn weighing_bytes(w: &Weighing) -> [u8; WEIGHING] {
+    let mut bytes = [0; WEIGHING];
+    bytes[0] = 1;
+    bytes[1] = w.m as u8;
+    let fields = [w.p, w.q, w.a as u64, w.b, w.n];
+    for (i, field) in fields.into_iter().enumerate() {
+        put(&mut bytes, 2 + 4 * i, field);
+    }
+    bytes
+}
+
+fn sheet_bytes(s: &Sheet) -> [u8; SHEET] {
+    let mut bytes = [0; SHEET];
+    bytes[0] = 2;
+    let fields = [
+        s.fwd as u64,
+        s.aft as u64,
+        s.dry,
+        s.wet,
+        s.nlp,
+        s.front_arm as u64,
+        s.front_least,
+        s.front_most,
+        s.front_step,
+        s.rear_arm as u64,
+        s.rear_most,
+        s.rear_step,
+        s.water_arm as u64,
+        s.capacity,
+        s.water_step,
+    ];
+    for (i, field) in fields.into_iter().enumerate() {
+        put(&mut bytes, 1 + 4 * i, field);
+    }
+    bytes
+}
+
+fn change_bytes(change: &Change) -> [u8; CHANGE] {
+    let mut bytes = [0; CHANGE];
+    bytes[0] = 3;
+    put(&mut bytes, 1, change.c as u64);
+    put(&mut bytes, 5, change.arm as u64);
+    bytes[9] = change.flag as u8;
+    bytes
+}
+
+/// What one pass over a file tells of its record.
+struct Record {
+    /// Bytes of the whole file.
+    length: usize,
+    /// Entries that stand.
+    count: u8,
+    /// Where the last entry begins.
+    last: usize,
+    /// G, M and n, where something was weighed.
+    sums: Option<Sums>,
+    /// The sheet in force.
+    sheet: Option<Sheet>,
+}
+
+impl Record {
+    /// Takes in the entry at the front of `rest`, tested as its call tests it,
+    /// and gives what stands behind it. The count is at most 64, so that no
+    /// entry is refused with 9.
+    fn take<'a>(&mut self, rest: &'a [u8]) -> Option<&'a [u8]> {
+        match rest.first()? {
+            1 => {
+                let (entry, rest) = rest.split_first_chunk()?;
+                self.sums = Some(weigh(&weighing_from(entry)).ok()?);
+                Some(rest)
+            }
+            2 => {
+                let (entry, rest) = rest.split_first_chunk()?;
+                let sheet = sheet_from(entry);
+                install(&sheet).ok()?;
+                self.sheet = Some(sheet);
+                Some(rest)
+            }
+            3 => {
+                let (entry, rest) = rest.split_first_chunk()?;
+                self.sums = Some(change(self.sums, &change_from(entry)).ok()?);
+                Some(rest)
+            }
+            _ => None,
+        }
+    }
+}
+
+/// The record at the front of a buffer; refused with 12 where there is none.
+fn record(buffer: &[u8]) -> Answer<Record> {
+    walk(buffer).ok_or(12)
+}
+
+fn walk(buffer: &[u8]) -> Option<Record> {
+    let head = buffer.first_chunk::<HEAD>()?;
+    let length = LENGTH.checked_add(unsigned(head, 0) as usize)?;
+    let mut rest = buffer.get(HEAD..length)?;
+    let [_, _, _, _, version, count] = *head;
+    if version != 1 || count > MOST_ENTRIES {
+        return None;
+    }
+    let mut record = Record {
+        length,
+        count,
+        last: HEAD,
+        sums: None,
+        sheet: None,
+    };
+    for _ in 0..count {
+        record.last = length - rest.len();
+        rest = record.take(rest)?;
+    }
+    rest.is_empty().then_some(record)
+}
+
+/// Sets length and count of the file at the front of a buffer.
+fn set_head(buffer: &mut [u8], length: usize, count: u8) {
+    let behind = (length - LENGTH) as u32;
+    buffer[..LENGTH].copy_from_slice(&behind.to_be_bytes());
+    buffer[HEAD - 1] = count;
+}
+
+// ---- The calls ----
+
+/// Writes a fresh record's file to the front of a buffer; refused with 11 where
+/// the buffer has fewer than 6 bytes.
+pub fn fresh(buffer: &mut [u8]) -> u64 {
+    match buffer.first_chunk_mut::<HEAD>() {
+        Some(front) => {
+            *front = [0, 0, 0, 2, 1, 0];
+            0
+        }
+        None => 11,
+    }
+}
+
+/// 0 where the buffer holds a record, else 12.
+pub fn check(buffer: &[u8]) -> u64 {
+    record(buffer).err().unwrap_or(0)
+}
+
+/// A call on the record in a buffer: 12 where it holds none, then the call's own
+/// number in the paper's order, then 11 where the buffer is too short for the
+/// file afterwards; else the file is changed and the number is 0. Reading back
+/// asks nothing of the buffer but its length.
+pub fn call(buffer: &mut [u8], call: &Call) -> u64 {
+    let answer = match call {
+        Call::Weigh(w) => add_weighing(buffer, w),
+        Call::Install(s) => add_sheet(buffer, s),
+        Call::Change(c) => add_change(buffer, c),
+        Call::Undo => undo(buffer),
+        Call::Read(bytes) => read(buffer, bytes),
+    };
+    answer.err().unwrap_or(0)
+}
+
+fn add_weighing(buffer: &mut [u8], w: &Weighing) -> Answer<()> {
+    let record = open_record(buffer)?;
+    weigh(w)?;
+    append(buffer, &record, &weighing_bytes(w))
+}
+
+fn add_sheet(buffer: &mut [u8], s: &Sheet) -> Answer<()> {
+    let record = open_record(buffer)?;
+    install(s)?;
+    append(buffer, &record, &sheet_bytes(s))
+}
+
+fn add_change(buffer: &mut [u8], c: &Change) -> Answer<()> {
+    let record = open_record(buffer)?;
+    change(record.sums, c)?;
+    append(buffer, &record, &change_bytes(c))
+}
+
+/// A record with a place for one more entry; refused with 12 or 9.
+fn open_record(buffer: &[u8]) -> Answer<Record> {
+    let record = record(buffer)?;
+    if record.count == MOST_ENTRIES {
+        return Err(9);
+    }
+    Ok(record)
+}
+
+/// Puts an accepted entry behind the file; refused with 11.
+fn append(buffer: &mut [u8], record: &Record, entry: &[u8]) -> Answer<()> {
+    let length = record.length + entry.len();
+    let place = buffer.get_mut(record.length..length).ok_or(11u64)?;
+    place.copy_from_slice(entry);
+    set_head(buffer, length, record.count + 1);
+    Ok(())
+}
+
+/// Takes the last entry back: its bytes stay, behind the shorter file.
+fn undo(buffer: &mut [u8]) -> Answer<()> {
+    let record = record(buffer)?;
+    let count = record.count.checked_sub(1).ok_or(10u64)?;
+    set_head(buffer, record.last, count);
+    Ok(())
+}
+
+/// Reads a file back: 12 where the bytes are not exactly a file, then 11.
+fn read(buffer: &mut [u8], bytes: &[u8]) -> Answer<()> {
+    if record(bytes)?.length != bytes.len() {
+        return Err(12);
+    }
+    let front = buffer.get_mut(..bytes.len()).ok_or(11u64)?;
+    front.copy_from_slice(bytes);
+    Ok(())
+}
+
+/// The empty centre of gravity; refused with 12 or 7.
+pub fn centre(buffer: &[u8]) -> Result<Centre, u64> {
+    let Sums { g, m, .. } = record(buffer)?.sums.ok_or(7u64)?;
+    Ok(Centre {
+        total: g as u64,
+        moment: m,
+        // Halves towards the tail: half a unit more, rounded down.
+        centre: (2 * m + g).div_euclid(2 * g),
+    })
+}
+
+// ---- A row ----
+
+/// The limits of a sheet, made ready for the numbers k of front steps.
+///
+/// With P = k·step every line of "A row" reads factor·k ≤ room, where the factor
+/// is the same for all rows and only the room depends on rear load and water.
+struct Limits {
+    /// Front steps allowed by the least and the greatest front load.
+    steps: Steps,
+    /// Front step: the factor of the weights.
+    step: i64,
+    /// What DRY and the non-lifting limit leave for the loads; WET with water.
+    dry: i64,
+    wet: i64,
+    /// S ≥ FWD·T: factor, room without loads, room for each gram of load.
+    forward: Line,
+    /// 20·S ≤ (19·AFT + FWD)·T likewise.
+    aft: Line,
+}
+
+/// factor·k ≤ room + r·rear + v·water.
+struct Line {
+    factor: i64,
+    room: i64,
+    rear: i64,
+    water: i64,
+}
+
+impl Line {
+    /// The least room from no water to w: it changes evenly with the water, so
+    /// that one of the ends is the tightest.
+    fn room(&self, r: i64, w: i64) -> i64 {
+        self.room + r * self.rear + (w * self.water).min(0)
+    }
+}
+
+/// The numbers of front steps from low to high; none where low > high.
+#[derive(Clone, Copy)]
+struct Steps {
+    low: i64,
+    high: i64,
+}
+
+impl Steps {
+    /// Keeps those with factor·k ≤ room. A negative factor turns the division's
+    /// answer into a least number; a factor of 0 keeps all or none.
+    fn limit(&mut self, factor: i64, room: i64) {
+        if factor > 0 {
+            self.high = self.high.min(room.div_euclid(factor));
+        } else if factor < 0 {
+            self.low = self.low.max(-room.div_euclid(-factor));
+        } else if room < 0 {
+            // The least number is never negative.
+            self.high = -1;
+        }
+    }
+}
+
+impl Limits {
+    fn new(sums: &Sums, sheet: &Sheet) -> Limits {
+        let Sums { g, m, n } = *sums;
+        let step = sheet.front_step as i64;
+        let (fwd, safe) = (sheet.fwd, 19 * sheet.aft + sheet.fwd);
+        let (front, rear, water) = (sheet.front_arm, sheet.rear_arm, sheet.water_arm);
+        let mut dry = sheet.dry as i64 - g;
+        if sheet.nlp != 0 {
+            dry = dry.min(sheet.nlp as i64 - n);
+        }
+        Limits {
+            steps: Steps {
+                low: sheet.front_least.div_ceil(sheet.front_step) as i64,
+                high: (sheet.front_most / sheet.front_step) as i64,
+            },
+            step,
+            dry,
+            wet: sheet.wet as i64 - g,
+            forward: Line {
+                factor: (fwd - front) * step,
+                room: m - fwd * g,
+                rear: rear - fwd,
+                water: water - fwd,
+            },
+            aft: Line {
+                factor: (20 * front - safe) * step,
+                room: safe * g - 20 * m,
+                rear: safe - 20 * rear,
+                water: safe - 20 * water,
+            },
+        }
+    }
+
+    /// The smallest and the largest front load of the row with rear load r and
+    /// water w; none where it is blank.
+    fn row(&self, r: i64, w: i64) -> Option<(u32, u32)> {
+        let mut steps = self.steps;
+        steps.limit(self.step, self.dry.min(self.wet - w) - r);
+        steps.limit(self.forward.factor, self.forward.room(r, w));
+        steps.limit(self.aft.factor, self.aft.room(r, w));
+        let load = |k: i64| (k * self.step) as u32;
+        (steps.low <= steps.high).then(|| (load(steps.low), load(steps.high)))
+    }
+}
+
+// ---- The placard ----
+
+/// A line before its fields are written.
+const BLANK: [u8; LINE] = *b"0000.000 0000.000 -------- --------\n";
+
+/// Four digits of kilograms, a point and three of grams.
+fn field(weight: u32) -> [u8; FIELD] {
+    let digit = |unit: u32| b'0' + (weight / unit % 10) as u8;
+    [
+        digit(1_000_000),
+        digit(100_000),
+        digit(10_000),
+        digit(1_000),
+        b'.',
+        digit(100),
+        digit(10),
+        digit(1),
+    ]
+}
+
+/// Writes one field of a line, counted from the left.
+fn set_field(line: &mut [u8; LINE], index: usize, text: [u8; FIELD]) {
+    let at = index * (FIELD + 1);
+    line[at..at + FIELD].copy_from_slice(&text);
+}
+
+/// The placard of the record in a buffer, written to the front of `out`; refused
+/// with 12, 7, 8 or 11.
+pub fn placard(buffer: &[u8], out: &mut [u8]) -> Result<Counts, u64> {
+    let record = record(buffer)?;
+    let sums = record.sums.ok_or(7u64)?;
+    let sheet = record.sheet.ok_or(8u64)?;
+    let waters = waters(&sheet) as usize;
+    let rows = rears(&sheet) as usize * waters;
+    let bytes = rows * LINE;
+    let (lines, _) = out.get_mut(..bytes).ok_or(11u64)?.as_chunks_mut();
+    let limits = Limits::new(&sums, &sheet);
+    let mut blank = 0;
+    for (i, lines) in lines.chunks_exact_mut(waters).enumerate() {
+        let rear = i as u32 * sheet.rear_step as u32;
+        let rear_field = field(rear);
+        for (j, line) in lines.iter_mut().enumerate() {
+            let water = j as u32 * sheet.water_step as u32;
+            *line = BLANK;
+            set_field(line, 0, rear_field);
+            set_field(line, 1, field(water));
+            match limits.row(rear.into(), water.into()) {
+                Some((smallest, largest)) => {
+                    set_field(line, 2, field(smallest));
+                    set_field(line, 3, field(largest));
+                }
+                None => blank += 1,
+            }
+        }
+    }
+    Ok(Counts { bytes, rows, blank })
+}

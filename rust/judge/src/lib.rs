@@ -1,0 +1,26 @@
+//! A judge for the glider placard.
+//!
+//! The library that makes placards is proved; this package is written a second
+//! time, in another language, from the words of paper 01 alone ("The glider
+//! placard: from scale readings to the cockpit plate"). None of it was taken
+//! from the proved library, its documents or its tests, so a mistake in reading
+//! the paper there is not repeated here by copying. Where the two differ, one
+//! of them has misread the paper.
+//!
+//! - [`paper`] follows the paper line by line, with plain loops and `i128`.
+//!   It is slow and meant to be compared with the paper by eye.
+//! - [`direct`] gives the same answers by solving each limit for the front
+//!   load, on a record lent as its file at the front of a byte buffer. It
+//!   shares the types of [`paper`] and none of its functions.
+//! - [`generate`] makes cases from a seed, so that any difference found can be
+//!   found again from two numbers.
+//!
+//! Weights are whole grams and arms whole hundredths of a millimetre, positive
+//! aft of the datum, as in the paper's "Units".
+
+#![forbid(unsafe_code)]
+#![warn(missing_docs)]
+
+pub mod direct;
+pub mod generate;
+pub mod paper;

@@ -1,0 +1,700 @@
+//! Paper 01 by plain loops.
+//!
+//! Every rule stands here as the paper words it, under the paper's heading, and
+//! every number is an `i128`, so that no argument can overflow a test. Nothing
+//! is solved: a row tries each step of the front load in turn.
+//!
+//! Readings of the paper, where its words leave room:
+//!
+//! - FWD < AFT is a range of the sheet and not the range of an arm ("an arm lies
+//!   in −2,000,000..2,000,000"), so a sheet that breaks it is refused with 4.
+//! - "No weight in it is negative" and "a weight is at most 2,000,000 g" hold for
+//!   DRY, WET, NLP and the capacity alike: number 4. The steps are weights too,
+//!   but all their ranges belong to number 5.
+//! - A file is a whole one: bytes behind its stated length make it no file.
+//! - In a method out of 1..4 there is no G; the call is refused with 1 anyway.
+//! - What a call refuses is tested in the paper's order, and all conditions of
+//!   one number count together: the first number of the order that holds.
+
+const WEIGHT: i128 = 2_000_000;
+const ARM: i128 = 2_000_000;
+const LOAD: i128 = 500_000;
+const MOST_ROWS: i128 = 256;
+const MOST_ENTRIES: usize = 64;
+const LINE: usize = 36;
+const VERSION: u8 = 1;
+
+// Numbers of refusal, by the trade's words.
+const ACCEPTED: u64 = 0;
+const READING: u64 = 1;
+const BAD_ARM: u64 = 2;
+const NON_LIFTING: u64 = 3;
+const SHEET: u64 = 4;
+const ROWS: u64 = 5;
+const CHANGE: u64 = 6;
+const UNWEIGHED: u64 = 7;
+const NO_SHEET: u64 = 8;
+const FULL: u64 = 9;
+const BARE: u64 = 10;
+const SHORT: u64 = 11;
+const FILE: u64 = 12;
+
+/// Up to this much water a row tries every whole gram; above it, both ends.
+const EVERY_GRAM: i128 = 400;
+
+/// A weighing: the method, what the scales read and where they stood.
+#[derive(Clone, Copy, Debug, PartialEq, Eq)]
+pub struct Weighing {
+    /// Method, 1 to 4.
+    pub m: u64,
+    /// First reading, in grams.
+    pub p: u64,
+    /// Second reading, in grams.
+    pub q: u64,
+    /// Signed distance of the first support from the datum.
+    pub a: i64,
+    /// Distance between the supports.
+    pub b: u64,
+    /// Non-lifting weight, in grams.
+    pub n: u64,
+}
+
+/// A data sheet: the limits of the type and the steps of its placard.
+#[derive(Clone, Copy, Debug, PartialEq, Eq)]
+pub struct Sheet {
+    /// Forward limit of the centre of gravity.
+    pub fwd: i64,
+    /// Aft limit of the centre of gravity.
+    pub aft: i64,
+    /// Greatest weight without water.
+    pub dry: u64,
+    /// Greatest weight with water.
+    pub wet: u64,
+    /// Greatest non-lifting weight, 0 for no limit.
+    pub nlp: u64,
+    /// Arm of the front load.
+    pub front_arm: i64,
+    /// Least front load.
+    pub front_least: u64,
+    /// Greatest front load.
+    pub front_most: u64,
+    /// Step of the front load.
+    pub front_step: u64,
+    /// Arm of the rear load.
+    pub rear_arm: i64,
+    /// Greatest rear load, 0 in a single-seater.
+    pub rear_most: u64,
+    /// Step of the rear load.
+    pub rear_step: u64,
+    /// Arm of the wing water.
+    pub water_arm: i64,
+    /// Capacity of the water tanks.
+    pub capacity: u64,
+    /// Step of the water.
+    pub water_step: u64,
+}
+
+/// A change of equipment.
+#[derive(Clone, Copy, Debug, PartialEq, Eq)]
+pub struct Change {
+    /// Weight put in, or taken out where negative.
+    pub c: i64,
+    /// Arm of the part.
+    pub arm: i64,
+    /// 1 for a non-lifting part, else 0.
+    pub flag: u64,
+}
+
+/// An entry of the journal.
+#[derive(Clone, Copy, Debug, PartialEq, Eq)]
+pub enum Entry {
+    /// The glider was weighed.
+    Weighing(Weighing),
+    /// A data sheet came into force.
+    Sheet(Sheet),
+    /// Equipment was changed.
+    Change(Change),
+}
+
+/// A call on the record.
+#[derive(Clone, Debug, PartialEq, Eq)]
+pub enum Call {
+    /// Add a weighing.
+    Weigh(Weighing),
+    /// Add a data sheet.
+    Install(Sheet),
+    /// Add a change.
+    Change(Change),
+    /// Take the last entry back.
+    Undo,
+    /// Replace the record by the one in these bytes.
+    Read(Vec<u8>),
+}
+
+/// The empty centre of gravity and what it comes from.
+#[derive(Clone, Copy, Debug, PartialEq, Eq)]
+pub struct Centre {
+    /// Total weight G.
+    pub total: u64,
+    /// Moment M.
+    pub moment: i64,
+    /// M/G to the nearest unit, halves towards the tail.
+    pub centre: i64,
+}
+
+/// What a placard's answer counts.
+#[derive(Clone, Copy, Debug, PartialEq, Eq)]
+pub struct Counts {
+    /// Bytes written.
+    pub bytes: usize,
+    /// Rows of the sheet in force.
+    pub rows: usize,
+    /// Rows without a front load that keeps every limit.
+    pub blank: usize,
+}
+
+/// The paper's journal: the accepted entries in order.
+///
+/// The entries are open to be read and to be made wrong on purpose for a test
+/// file; the methods answer for those that [`Journal::call`] accepts.
+#[derive(Clone, Debug, Default, PartialEq, Eq)]
+pub struct Journal {
+    /// The entries, oldest first.
+    pub entries: Vec<Entry>,
+}
+
+/// G, M and n of "The record".
+#[derive(Clone, Copy, Debug)]
+pub(crate) struct Sums {
+    pub(crate) g: i128,
+    pub(crate) m: i128,
+    pub(crate) n: i128,
+}
+
+/// G of a weighing; of any method beside 1 to 3 as of method 4.
+fn total(w: &Weighing) -> i128 {
+    let (p, q) = (i128::from(w.p), i128::from(w.q));
+    match w.m {
+        1 | 2 => p,
+        3 => p + q,
+        _ => p - q,
+    }
+}
+
+/// G, M and n of an accepted weighing.
+fn weighed(w: &Weighing) -> Sums {
+    let (p, q) = (i128::from(w.p), i128::from(w.q));
+    let (a, b) = (i128::from(w.a), i128::from(w.b));
+    let g = total(w);
+    let m = match w.m {
+        1 => p * a + q * b,
+        2 => (p - q) * b - p * a,
+        3 => q * b - g * a,
+        _ => g * a - q * b,
+    };
+    let n = i128::from(w.n);
+    Sums { g, m, n }
+}
+
+/// G, M and n after a change.
+fn changed(before: Sums, change: &Change) -> Sums {
+    let (c, arm) = (i128::from(change.c), i128::from(change.arm));
+    Sums {
+        g: before.g + c,
+        m: before.m + c * arm,
+        n: if change.flag == 1 {
+            before.n + c
+        } else {
+            before.n
+        },
+    }
+}
+
+fn is_arm(arm: i64) -> bool {
+    (-ARM..=ARM).contains(&i128::from(arm))
+}
+
+fn is_weight(weight: i128) -> bool {
+    (0..=WEIGHT).contains(&weight)
+}
+
+fn is_total(g: i128) -> bool {
+    (1..=WEIGHT).contains(&g)
+}
+
+/// Rows of a sheet whose steps are in their ranges: rear loads, waters.
+fn row_counts(s: &Sheet) -> (i128, i128) {
+    let rears = i128::from(s.rear_most) / i128::from(s.rear_step) + 1;
+    let waters = i128::from(s.capacity) / i128::from(s.water_step) + 1;
+    (rears, waters)
+}
+
+/// "another sheet range broken, those of number 5 apart".
+fn sheet_ranges_hold(s: &Sheet) -> bool {
+    let (dry, wet) = (i128::from(s.dry), i128::from(s.wet));
+    let (least, most) = (i128::from(s.front_least), i128::from(s.front_most));
+    s.fwd < s.aft
+        && (1..=WEIGHT).contains(&dry)
+        && dry <= wet
+        && is_weight(wet)
+        && is_weight(i128::from(s.nlp))
+        && least <= most
+        && most <= LOAD
+        && i128::from(s.rear_most) <= LOAD
+        && is_weight(i128::from(s.capacity))
+}
+
+/// "a step outside its range, or over 256 rows", the other way round.
+fn steps_and_rows_hold(s: &Sheet) -> bool {
+    let steps_hold = (1..=LOAD).contains(&i128::from(s.front_step))
+        && (1..=LOAD).contains(&i128::from(s.rear_step))
+        && (1..=WEIGHT).contains(&i128::from(s.water_step));
+    if !steps_hold {
+        return false;
+    }
+    let (rears, waters) = row_counts(s);
+    rears * waters <= MOST_ROWS
+}
+
+impl Journal {
+    /// An empty journal.
+    pub fn new() -> Journal {
+        Journal::default()
+    }
+
+    /// The call's number, 0 where it is accepted; the journal afterwards is as
+    /// the paper has it.
+    pub fn call(&mut self, call: &Call) -> u64 {
+        match call {
+            Call::Weigh(w) => self.add(self.weighing_number(w), Entry::Weighing(*w)),
+            Call::Install(s) => self.add(self.sheet_number(s), Entry::Sheet(*s)),
+            Call::Change(c) => self.add(self.change_number(c), Entry::Change(*c)),
+            Call::Undo => match self.entries.pop() {
+                Some(_) => ACCEPTED,
+                None => BARE,
+            },
+            Call::Read(bytes) => match Journal::read(bytes) {
+                Ok(journal) => {
+                    *self = journal;
+                    ACCEPTED
+                }
+                Err(number) => number,
+            },
+        }
+    }
+
+    /// An entry "to which the table gives no number goes to its end".
+    fn add(&mut self, number: u64, entry: Entry) -> u64 {
+        if number == ACCEPTED {
+            self.entries.push(entry);
+        }
+        number
+    }
+
+    fn is_full(&self) -> bool {
+        self.entries.len() >= MOST_ENTRIES
+    }
+
+    /// Order: weighing 9, 1, 2, 3.
+    fn weighing_number(&self, w: &Weighing) -> u64 {
+        let (p, q) = (i128::from(w.p), i128::from(w.q));
+        if self.is_full() {
+            return FULL;
+        }
+        let method = (1..=4).contains(&w.m);
+        let readings = is_weight(p) && is_weight(q);
+        let part_of_total = q <= p || (w.m != 1 && w.m != 2);
+        if !method || !readings || !part_of_total || !is_total(total(w)) {
+            return READING;
+        }
+        if !is_arm(w.a) || !(1..=ARM).contains(&i128::from(w.b)) {
+            return BAD_ARM;
+        }
+        if i128::from(w.n) > total(w) {
+            return NON_LIFTING;
+        }
+        ACCEPTED
+    }
+
+    /// Order: sheet 9, 2, 4, 5.
+    fn sheet_number(&self, s: &Sheet) -> u64 {
+        if self.is_full() {
+            return FULL;
+        }
+        let arms = [s.fwd, s.aft, s.front_arm, s.rear_arm, s.water_arm];
+        if !arms.into_iter().all(is_arm) {
+            return BAD_ARM;
+        }
+        if !sheet_ranges_hold(s) {
+            return SHEET;
+        }
+        if !steps_and_rows_hold(s) {
+            return ROWS;
+        }
+        ACCEPTED
+    }
+
+    /// Order: change 9, 7, 2, 6, 3.
+    fn change_number(&self, change: &Change) -> u64 {
+        if self.is_full() {
+            return FULL;
+        }
+        let Some(before) = self.sums() else {
+            return UNWEIGHED;
+        };
+        if !is_arm(change.arm) {
+            return BAD_ARM;
+        }
+        let c = i128::from(change.c);
+        let after = changed(before, change);
+        let weight = (-WEIGHT..=WEIGHT).contains(&c) && c != 0;
+        if !weight || change.flag > 1 || !is_total(after.g) {
+            return CHANGE;
+        }
+        if !(0..=after.g).contains(&after.n) {
+            return NON_LIFTING;
+        }
+        ACCEPTED
+    }
+
+    /// "G, M and n are those of the last weighing in the list and the changes
+    /// behind it"; none where there is no weighing.
+    pub(crate) fn sums(&self) -> Option<Sums> {
+        let mut sums = None;
+        for entry in &self.entries {
+            match entry {
+                Entry::Weighing(w) => sums = Some(weighed(w)),
+                Entry::Change(c) => sums = sums.map(|before| changed(before, c)),
+                Entry::Sheet(_) => {}
+            }
+        }
+        sums
+    }
+
+    /// The sheet in force: the last one in the list.
+    pub(crate) fn sheet(&self) -> Option<Sheet> {
+        let mut sheet = None;
+        for entry in &self.entries {
+            if let Entry::Sheet(s) = entry {
+                sheet = Some(*s);
+            }
+        }
+        sheet
+    }
+
+    /// The empty centre of gravity; refused with 7 where nothing was weighed.
+    pub fn centre(&self) -> Result<Centre, u64> {
+        let Sums { g, m, .. } = self.sums().ok_or(UNWEIGHED)?;
+        // Halves towards the tail: M/G + 1/2 rounded down. G is at least 1.
+        let centre = (2 * m + g).div_euclid(2 * g);
+        Ok(Centre {
+            total: g as u64,
+            moment: m as i64,
+            centre: centre as i64,
+        })
+    }
+}
+
+// ---- A row ----
+
+/// The lines of "A row" for one front load p, rear load r and water v aboard.
+fn keeps(sums: &Sums, sheet: &Sheet, p: i128, r: i128, v: i128) -> bool {
+    let Sums { g, m, n } = *sums;
+    let (fwd, aft) = (i128::from(sheet.fwd), i128::from(sheet.aft));
+    let (dry, wet) = (i128::from(sheet.dry), i128::from(sheet.wet));
+    let nlp = i128::from(sheet.nlp);
+    let front_arm = i128::from(sheet.front_arm);
+    let rear_arm = i128::from(sheet.rear_arm);
+    let water_arm = i128::from(sheet.water_arm);
+    let t = g + p + r + v;
+    let s = m + p * front_arm + r * rear_arm + v * water_arm;
+    g + p + r <= dry
+        && g + p + r + v <= wet
+        && (nlp == 0 || n + p + r <= nlp)
+        && s >= fwd * t
+        && 20 * s <= (19 * aft + fwd) * t
+}
+
+/// Every whole v from 0 to w, as the paper has it.
+fn keeps_with_every_water(sums: &Sums, sheet: &Sheet, p: i128, r: i128, w: i128) -> bool {
+    (0..=w).all(|v| keeps(sums, sheet, p, r, v))
+}
+
+/// No water and all of it. Each line of the paper is linear in v for a fixed P:
+/// its two sides differ by an amount that changes evenly from 0 to w, so that it
+/// holds for every v between when it holds at both ends.
+fn keeps_at_both_ends(sums: &Sums, sheet: &Sheet, p: i128, r: i128, w: i128) -> bool {
+    keeps(sums, sheet, p, r, 0) && keeps(sums, sheet, p, r, w)
+}
+
+fn keeps_every_limit(sums: &Sums, sheet: &Sheet, p: i128, r: i128, w: i128) -> bool {
+    if w <= EVERY_GRAM {
+        keeps_with_every_water(sums, sheet, p, r, w)
+    } else {
+        keeps_at_both_ends(sums, sheet, p, r, w)
+    }
+}
+
+/// The smallest and the largest front load that keeps every limit, found by
+/// trying each multiple of the front step from least to greatest.
+fn row(sums: &Sums, sheet: &Sheet, r: i128, w: i128) -> Option<(i128, i128)> {
+    let mut range = None;
+    let mut p = 0;
+    while p <= i128::from(sheet.front_most) {
+        if p >= i128::from(sheet.front_least) && keeps_every_limit(sums, sheet, p, r, w) {
+            let smallest = range.map_or(p, |(first, _)| first);
+            range = Some((smallest, p));
+        }
+        p += i128::from(sheet.front_step);
+    }
+    range
+}
+
+// ---- The placard ----
+
+/// Four digits of kilograms, a point and three of grams.
+fn kilograms(weight: i128) -> String {
+    format!("{:04}.{:03}", weight / 1000, weight % 1000)
+}
+
+/// One line: rear, water, smallest, largest.
+fn line(r: i128, w: i128, range: Option<(i128, i128)>) -> String {
+    let blank = || "-".repeat(8);
+    let smallest = range.map_or_else(blank, |(first, _)| kilograms(first));
+    let largest = range.map_or_else(blank, |(_, last)| kilograms(last));
+    format!("{} {} {smallest} {largest}\n", kilograms(r), kilograms(w))
+}
+
+/// Tests of the limits that the placard of an accepted sheet takes at most.
+pub(crate) fn sheet_work(sheet: &Sheet) -> u64 {
+    let (rears, waters) = row_counts(sheet);
+    let steps = i128::from(sheet.front_most) / i128::from(sheet.front_step) + 1;
+    let tried: i128 = (0..waters)
+        .map(|j| j * i128::from(sheet.water_step))
+        .map(|w| if w <= EVERY_GRAM { w + 1 } else { 2 })
+        .sum();
+    (rears * steps * tried) as u64
+}
+
+impl Journal {
+    /// The placard, written to the front of `out`; refused with 7, 8 or 11.
+    pub fn placard(&self, out: &mut [u8]) -> Result<Counts, u64> {
+        let sums = self.sums().ok_or(UNWEIGHED)?;
+        let sheet = self.sheet().ok_or(NO_SHEET)?;
+        let (rears, waters) = row_counts(&sheet);
+        let rows = (rears * waters) as usize;
+        if out.len() < rows * LINE {
+            return Err(SHORT);
+        }
+        let (mut at, mut blank) = (0, 0);
+        for i in 0..rears {
+            for j in 0..waters {
+                let r = i * i128::from(sheet.rear_step);
+                let w = j * i128::from(sheet.water_step);
+                let range = row(&sums, &sheet, r, w);
+                out[at..at + LINE].copy_from_slice(line(r, w, range).as_bytes());
+                at += LINE;
+                blank += usize::from(range.is_none());
+            }
+        }
+        Ok(Counts {
+            bytes: at,
+            rows,
+            blank,
+        })
+    }
+
+    /// About how many times [`Journal::placard`] would test the limits: rows
+    /// times steps times the waters tried. 0 where it would be refused.
+    pub fn placard_work(&self) -> u64 {
+        match (self.sums(), self.sheet()) {
+            (Some(_), Some(sheet)) => sheet_work(&sheet),
+            _ => 0,
+        }
+    }
+
+    /// Bytes of the placard, where a weighing and a sheet stand.
+    pub(crate) fn placard_bytes(&self) -> Option<usize> {
+        self.sums()?;
+        let (rears, waters) = row_counts(&self.sheet()?);
+        Some((rears * waters) as usize * LINE)
+    }
+}
+
+// ---- The file ----
+
+// The bytes of an entry. Accepted values all fit in four bytes; cut to four, a
+// negative one is in two's complement.
+
+fn unsigned(value: u64) -> [u8; 4] {
+    (value as u32).to_be_bytes()
+}
+
+fn signed(value: i64) -> [u8; 4] {
+    (value as i32).to_be_bytes()
+}
+
+fn weighing_bytes(w: &Weighing) -> Vec<u8> {
+    let fields = [
+        unsigned(w.p),
+        unsigned(w.q),
+        signed(w.a),
+        unsigned(w.b),
+        unsigned(w.n),
+    ];
+    [&[1, w.m as u8], fields.as_flattened()].concat()
+}
+
+fn sheet_bytes(s: &Sheet) -> Vec<u8> {
+    let fields = [
+        signed(s.fwd),
+        signed(s.aft),
+        unsigned(s.dry),
+        unsigned(s.wet),
+        unsigned(s.nlp),
+        signed(s.front_arm),
+        unsigned(s.front_least),
+        unsigned(s.front_most),
+        unsigned(s.front_step),
+        signed(s.rear_arm),
+        unsigned(s.rear_most),
+        unsigned(s.rear_step),
+        signed(s.water_arm),
+        unsigned(s.capacity),
+        unsigned(s.water_step),
+    ];
+    [&[2], fields.as_flattened()].concat()
+}
+
+fn change_bytes(change: &Change) -> Vec<u8> {
+    let fields = [signed(change.c), signed(change.arm)];
+    [&[3], fields.as_flattened(), &[change.flag as u8]].concat()
+}
+
+fn entry_bytes(entry: &Entry) -> Vec<u8> {
+    match entry {
+        Entry::Weighing(w) => weighing_bytes(w),
+        Entry::Sheet(s) => sheet_bytes(s),
+        Entry::Change(c) => change_bytes(c),
+    }
+}
+
+/// Takes one field after another from the front of a file.
+struct Fields<'a> {
+    rest: &'a [u8],
+}
+
+impl Fields<'_> {
+    fn take<const N: usize>(&mut self) -> Option<[u8; N]> {
+        let (field, rest) = self.rest.split_first_chunk::<N>()?;
+        self.rest = rest;
+        Some(*field)
+    }
+
+    fn byte(&mut self) -> Option<u8> {
+        self.take::<1>().map(|[byte]| byte)
+    }
+
+    fn unsigned(&mut self) -> Option<u64> {
+        self.take()
+            .map(|field| u64::from(u32::from_be_bytes(field)))
+    }
+
+    fn signed(&mut self) -> Option<i64> {
+        self.take()
+            .map(|field| i64::from(i32::from_be_bytes(field)))
+    }
+
+    /// The next entry, as the call that would add it.
+    fn entry(&mut self) -> Option<Call> {
+        match self.byte()? {
+            1 => self.weighing().map(Call::Weigh),
+            2 => self.sheet().map(Call::Install),
+            3 => self.change().map(Call::Change),
+            _ => None,
+        }
+    }
+
+    fn weighing(&mut self) -> Option<Weighing> {
+        Some(Weighing {
+            m: u64::from(self.byte()?),
+            p: self.unsigned()?,
+            q: self.unsigned()?,
+            a: self.signed()?,
+            b: self.unsigned()?,
+            n: self.unsigned()?,
+        })
+    }
+
+    fn sheet(&mut self) -> Option<Sheet> {
+        Some(Sheet {
+            fwd: self.signed()?,
+            aft: self.signed()?,
+            dry: self.unsigned()?,
+            wet: self.unsigned()?,
+            nlp: self.unsigned()?,
+            front_arm: self.signed()?,
+            front_least: self.unsigned()?,
+            front_most: self.unsigned()?,
+            front_step: self.unsigned()?,
+            rear_arm: self.signed()?,
+            rear_most: self.unsigned()?,
+            rear_step: self.unsigned()?,
+            water_arm: self.signed()?,
+            capacity: self.unsigned()?,
+            water_step: self.unsigned()?,
+        })
+    }
+
+    fn change(&mut self) -> Option<Change> {
+        Some(Change {
+            c: self.signed()?,
+            arm: self.signed()?,
+            flag: u64::from(self.byte()?),
+        })
+    }
+
+    /// The whole journal of a file; none where it is not laid out as the paper
+    /// says or an entry gets a number.
+    fn journal(&mut self) -> Option<Journal> {
+        let length = self.unsigned()?;
+        if length != self.rest.len() as u64 || self.byte()? != VERSION {
+            return None;
+        }
+        let mut journal = Journal::new();
+        for _ in 0..self.byte()? {
+            let call = self.entry()?;
+            if journal.call(&call) != ACCEPTED {
+                return None;
+            }
+        }
+        self.rest.is_empty().then_some(journal)
+    }
+}
+
+impl Journal {
+    /// The journal's file.
+    pub fn file(&self) -> Vec<u8> {
+        let mut body = vec![VERSION, self.entries.len() as u8];
+        for entry in &self.entries {
+            body.extend(entry_bytes(entry));
+        }
+        let length = (body.len() as u32).to_be_bytes();
+        [length.as_slice(), &body].concat()
+    }
+
+    /// Writes the file to the front of `out` and gives its length; refused with
+    /// 11 where it does not fit. Bytes behind it stay.
+    pub fn write(&self, out: &mut [u8]) -> Result<usize, u64> {
+        let file = self.file();
+        let front = out.get_mut(..file.len()).ok_or(SHORT)?;
+        front.copy_from_slice(&file);
+        Ok(file.len())
+    }
+
+    /// The journal whose file these bytes are; refused with 12 where they are
+    /// no journal's file.
+    pub fn read(bytes: &[u8]) -> Result<Journal, u64> {
+        Fields { rest: bytes }.journal().ok_or(FILE)
+    }
+}
