@@ -10,12 +10,12 @@ use Rattle.laws.specs.Splits.{split}
 use Rattle.laws.specs.Lists.{Each}
 use Rattle.paper.specs.declared.Entry.{Entry}
 use Rattle.paper.specs.Placard.{feed}
-use Rattle.paper.specs.Journal.{Call, undo, callNumber, acceptedCall, afterCall, journalFrom, numbersFrom, journal, numbers}
+use Rattle.paper.specs.Journal.{Call, undo, callNumber, acceptedCall, afterCall, journalFrom, numbersFrom, journal, numbers, callOf}
 use Rattle.language.specs.declared.Line.{Line}
 use Rattle.language.specs.declared.Line.the-variants as line
 use Rattle.language.specs.Lines.{says}
 use Rattle.book.proofs.Turns.{refused-stays, not-understood-stays}
-use Rattle.book.specs.Books.{stands, refused, notUnderstood, callOf, called, afterLine, afterLines, bookOf}
+use Rattle.book.specs.Books.{stands, refused, notUnderstood, called, afterLine, afterLines, bookOf}
 
 -- the call that a line makes, in front of others
 unfoldable pub callOfLine : Line → List Call → List Call

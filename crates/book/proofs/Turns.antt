@@ -9,7 +9,7 @@ use lib.Dec.{eqb}
 use borrow.Author.Tests.{eqb-true}
 use Rattle.paper.specs.declared.Entry.{Entry}
 use Rattle.paper.specs.Refusals.{accepted}
-use Rattle.paper.specs.Journal.{Call, undo, callNumber, acceptedCall}
+use Rattle.paper.specs.Journal.{Call, undo, callNumber, acceptedCall, callOf}
 use Rattle.record.specs.declared.Record.{Record}
 use Rattle.record.specs.Held.{recordOf, keptOr, answered}
 use Rattle.record.proofs.Lists.{held-record}
@@ -20,7 +20,7 @@ use Rattle.language.specs.Lines.{passedOver, says}
 use Rattle.book.specs.declared.Reading.{Reading}
 use Rattle.book.specs.declared.Ending.{Ending}
 use Rattle.book.specs.declared.Ending.the-variants as ending
-use Rattle.book.specs.Books.{Outcome, stands, refused, notUnderstood, callOf, called, afterLine, afterLines, readingOf, byAnswer, turnOn, turned}
+use Rattle.book.specs.Books.{Outcome, stands, refused, notUnderstood, called, afterLine, afterLines, readingOf, byAnswer, turnOn, turned}
 
 -- ---- one line more
 

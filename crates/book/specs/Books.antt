@@ -5,9 +5,8 @@ use Prim.Native.Nat.{ℕ, suc}
 use lib.Dec.{eqb}
 use Rattle.laws.specs.Splits.{split}
 use Rattle.paper.specs.declared.Entry.{Entry}
-use Rattle.paper.specs.declared.Entry.the-variants as entry
 use Rattle.paper.specs.Placard.{feed}
-use Rattle.paper.specs.Journal.{Call, weigh, install, change, undo, callNumber, acceptedCall}
+use Rattle.paper.specs.Journal.{Call, undo, callOf, callNumber, acceptedCall}
 use Rattle.record.specs.declared.Record.{Record}
 use Rattle.record.specs.declared.Kept.{Kept}
 use Rattle.record.specs.Held.{recordOf, answered}
@@ -24,12 +23,6 @@ pub data Outcome : Type 0 where
   stands : List Entry → Outcome
   refused : ℕ → ℕ → Outcome
   notUnderstood : ℕ → Outcome
-
--- the call that adds an entry
-unfoldable pub callOf : Entry → Call
-callOf (entry.Weighing w) = weigh w
-callOf (entry.Sheet s) = install s
-callOf (entry.Change x) = change x
 
 -- a call that the i-th line makes
 unfoldable pub called : ℕ → List Entry → Call → Outcome

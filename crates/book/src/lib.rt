@@ -6,7 +6,8 @@ use record::Record;
 ghost use mathlib.Core.Path.{_≡_};
 ghost use Rattle.language.specs.Lines.{says};
 ghost use Rattle.record.specs.Held.{answered};
-ghost use Rattle.book.specs.Books.{callOf, bookOf, failing as Books·failing, readingOf, byAnswer, turnOn, turned};
+ghost use Rattle.paper.specs.Journal.{callOf};
+ghost use Rattle.book.specs.Books.{bookOf, failing as Books·failing, readingOf, byAnswer, turnOn, turned};
 
 // How a logbook ends: whole, or at the line with this number, with the number of refusal where its call is refused.
 pub enum Ending {

@@ -1,26 +1,16 @@
--- What is written in all, and what writing answers. Assumes nothing.
+-- What is written in all. Assumes nothing.
 use mathlib.Core.Path.{_≡_, sym, ap, _∙_}
 use mathlib.Core.List.{List}
-use Prim.Native.Nat.{ℕ, _-_, _≤_, _<_}
+use Prim.Native.Nat.{ℕ, _-_, _≤_}
 use native.Mathlib.Omega.{arith}
 use lib.ListN.{length}
-use borrow.Author.Tests.{lt-ltb, le-ltb}
 use Rattle.laws.specs.Written.{written, written-first, written-follows}
 use Rattle.paper.specs.declared.Entry.{Entry}
 use Rattle.paper.specs.File.{fileBytes}
-use Rattle.paper.specs.Refusals.{firstNumber, writingNumber}
-use Rattle.paper.specs.Answers.{over, writtenBy, writtenAnswer}
+use Rattle.paper.specs.Answers.{over}
 use Rattle.stored.specs.Header.{headerOf}
 use Rattle.stored.specs.Found.{bytesIn}
 use Rattle.stored.proofs.Parts.{length-header, file-parts, file-size}
-
-pub too-short : (es : List Entry) (s : List ℕ) → length s < length (fileBytes es) → writtenAnswer es s ≡ (record { number = 11; length = 0 }, s)
-unfolding writtenAnswer writtenBy writingNumber firstNumber
-too-short es s h = rw (lt-ltb (length s) (length (fileBytes es)) h)
-
-pub long-enough : (es : List Entry) (s : List ℕ) → length (fileBytes es) ≤ length s → writtenAnswer es s ≡ (record { number = 0; length = length (fileBytes es) }, over (fileBytes es) s)
-unfolding writtenAnswer writtenBy writingNumber firstNumber
-long-enough es s h = rw (le-ltb (length s) (length (fileBytes es)) h)
 
 all-put : (es : List Entry) (s : List ℕ) → length (fileBytes es) ≤ length s → written (written s 0 (headerOf (length (fileBytes es) - 4) (length es))) 6 (bytesIn es) ≡ over (fileBytes es) s
 unfolding over

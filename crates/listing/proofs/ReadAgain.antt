@@ -21,7 +21,7 @@ use Rattle.paper.specs.declared.CentreOfGravity.{CentreOfGravity}
 use Rattle.paper.specs.declared.Written.{Written}
 use Rattle.paper.specs.Placard.{feed}
 use Rattle.paper.specs.Refusals.{firstNumber, _when_, entryNumber, acceptedAfter, accepted, weighingNumber, sheetNumber, changeNumber}
-use Rattle.paper.specs.Journal.{callNumber, acceptedCall}
+use Rattle.paper.specs.Journal.{callNumber, acceptedCall, callOf}
 use Rattle.paper.specs.Answers.{centreAnswer, over, writtenBy}
 use Rattle.numerals.specs.Numerals.{decimal, numeral}
 use Rattle.numerals.proofs.Words.{decimal-above, numeral-above}
@@ -36,7 +36,7 @@ use Rattle.record.proofs.Replays.{held-accepted}
 use Rattle.record.proofs.Following.{Made}
 use Rattle.book.specs.declared.Reading.{Reading}
 use Rattle.book.specs.declared.Ending.the-variants as ending
-use Rattle.book.specs.Books.{Outcome, stands, callOf, called, afterLine, afterLines, bookOf, readingOf}
+use Rattle.book.specs.Books.{Outcome, stands, called, afterLine, afterLines, bookOf, readingOf}
 use Rattle.book.proofs.read.Reads as read
 use Rattle.listing.specs.Listings.{totalText, momentText, centreText, comment, remark, linesOf, listedAfter, listing, listedAnswer}
 use Rattle.listing.proofs.Readables.{entry-readable}

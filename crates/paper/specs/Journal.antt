@@ -20,6 +20,12 @@ pub data Call : Type 0 where
   undo : Call
   read : List ℕ → Call
 
+-- the call that adds an entry
+unfoldable pub callOf : Entry → Call
+callOf (entry.Weighing w) = weigh w
+callOf (entry.Sheet s) = install s
+callOf (entry.Change x) = change x
+
 -- the number that a call gets on a journal, 0 where it is accepted
 unfoldable pub callNumber : List Entry → Call → ℕ
 callNumber es (weigh w) = weighingNumber es w

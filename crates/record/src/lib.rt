@@ -11,10 +11,11 @@ use paper::Weighing;
 ghost use mathlib.Core.Path.{_≡_};
 ghost use mathlib.Core.List.{List, [], _∷_, _++_};
 ghost use Prim.Native.Nat.{_<_};
+ghost use Rattle.paper.specs.Record.{balanceOf};
 ghost use Rattle.paper.specs.Refusals.{entryNumber};
 ghost use Rattle.paper.specs.Journal as journal;
 ghost use Rattle.paper.specs.Answers.{centreAnswer};
-ghost use Rattle.judge.specs.Standing.{Sound};
+ghost use Rattle.judge.specs.Standing.{plainly, Sound};
 ghost use Rattle.record.specs.Held.{unusedSlot, recordOf, keptBehind, heldBy, answered, keptOr, put, ReplayedAs};
 
 pub struct Slot {
@@ -117,6 +118,27 @@ fn add(r: Record, e: Entry) -> Kept
     }
 }
 
+// Total, moment and empty centre of gravity of what stands: 7 before a weighing.
+pub fn centre(standing: Standing) -> CentreOfGravity
+    requires { ⌜ Sound 4096 standing ⌝ }
+    ensures { λ r. ⌜ ((es : List _) → plainly standing ≡ balanceOf es → r ≡ centreAnswer es) ⌝ }
+{
+    let Standing::Weighed(b) = standing else {
+        return CentreOfGravity {
+            number: 7,
+            total: 0,
+            moment: 0,
+            centre: 0,
+        };
+    };
+    CentreOfGravity {
+        number: 0,
+        total: b.total,
+        moment: balance::moment(b),
+        centre: balance::centre(b),
+    }
+}
+
 impl Record {
     // A fresh record: no entry.
     pub fn fresh() -> Record
@@ -175,19 +197,6 @@ impl Record {
     {
         let now = replay(self);
         let standing = now.standing;
-        let Standing::Weighed(b) = standing else {
-            return CentreOfGravity {
-                number: 7,
-                total: 0,
-                moment: 0,
-                centre: 0,
-            };
-        };
-        CentreOfGravity {
-            number: 0,
-            total: b.total,
-            moment: balance::moment(b),
-            centre: balance::centre(b),
-        }
+        centre(standing)
     }
 }

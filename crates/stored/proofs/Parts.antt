@@ -1,12 +1,16 @@
--- The parts of a file: the header as it is put, the entries behind it, and how long they are. Assumes nothing.
+-- The parts of a file: the header as it is put, the entries behind it, how long they are, and what writing them answers.
+-- Assumes nothing.
 use mathlib.Core.Path.{_≡_, sym, ap, _∙_}
 use mathlib.Core.List.{List, [], _∷_, _++_, append-assoc}
-use Prim.Native.Nat.{ℕ, _+_, _-_, _≤_}
+use Prim.Native.Nat.{ℕ, _+_, _-_, _≤_, _<_}
 use native.Mathlib.Omega.{arith}
 use lib.ListN.{length, set, length-append}
+use borrow.Author.Tests.{lt-ltb, le-ltb}
 use Rattle.laws.specs.Written.{written, length-written, written-one, written-follows}
 use Rattle.paper.specs.declared.Entry.{Entry}
 use Rattle.paper.specs.File.{bytesOf, version, bodyBytes, fileBytes}
+use Rattle.paper.specs.Refusals.{firstNumber, writingNumber}
+use Rattle.paper.specs.Answers.{over, writtenBy, writtenAnswer}
 use Rattle.format.specs.Numbers.{length-bytes}
 use Rattle.stored.specs.Header.{headerOf}
 use Rattle.stored.specs.Found.{bytesIn}
@@ -48,3 +52,13 @@ module _ (s : List ℕ) (n count : ℕ) (h : 6 ≤ length s) where
 -- it leaves the buffer's length as it is
 pub header-length : (s : List ℕ) (n count : ℕ) → 6 ≤ length s → length (written s 0 (headerOf n count)) ≡ length s
 header-length s n count h = length-written s 0 (headerOf n count) (omega (arith, length-header n count))
+
+-- ---- what writing answers
+
+pub too-short : (es : List Entry) (s : List ℕ) → length s < length (fileBytes es) → writtenAnswer es s ≡ (record { number = 11; length = 0 }, s)
+unfolding writtenAnswer writtenBy writingNumber firstNumber
+too-short es s h = rw (lt-ltb (length s) (length (fileBytes es)) h)
+
+pub long-enough : (es : List Entry) (s : List ℕ) → length (fileBytes es) ≤ length s → writtenAnswer es s ≡ (record { number = 0; length = length (fileBytes es) }, over (fileBytes es) s)
+unfolding writtenAnswer writtenBy writingNumber firstNumber
+long-enough es s h = rw (le-ltb (length s) (length (fileBytes es)) h)

@@ -47,13 +47,15 @@ unfolding accepted acceptedAfter balanceOf lastWeighing sheetOf withoutLast join
 begun s count =
     record { entries = []; fine = refl; rest = none-read s count; contents = record { count = refl; stands = refl; sound = tt; sheet = refl; last = refl; end = refl } }
 
+-- what is judged against the contents is judged against the list
+module _ (es : List Entry) (c : Contents) (x : ContentsOf es c) where
+  pub sound-in : Sound (c .count) (c .standing)
+  sound-in = rw (x .count) (x .sound)
+
+  pub number-in : (e : Entry) → numberAt (c .count) (plainly (c .standing)) e ≡ entryNumber es e
+  number-in e = rw (x .count, x .stands) (sym (number-at es e))
+
 module _ (s : List ℕ) (count : ℕ) (c : Contents) (w : WalkedTo s count c) where
-  pub sound-here : Sound (c .count) (c .standing)
-  sound-here = rw (w .contents .count) (w .contents .sound)
-
-  pub number-here : (e : Entry) → numberAt (c .count) (plainly (c .standing)) e ≡ entryNumber (w .entries) e
-  number-here e = rw (w .contents .count, w .contents .stands) (sym (number-at (w .entries) e))
-
   -- one entry more, which gets no number
   module _ (b : areBytes s ≡ true) (h : c .count < count) (e : Entry) (place : ℕ) (g : walkAt s (c .end) ≡ Got e place) (n : numberAt (c .count) (plainly (c .standing)) e ≡ 0) where
     pub gone-on : (t : Standing) (f : InForce) → plainly t ≡ after (plainly (c .standing)) e → Sound (c .count + 1) t → found f ≡ orElse (asSheet e) (found (c .sheet)) → WalkedTo s count (record { count = c .count + 1; standing = t; sheet = f; last = c .end; end = place })
@@ -62,7 +64,7 @@ module _ (s : List ℕ) (count : ℕ) (c : Contents) (w : WalkedTo s count c) wh
         let x = w .contents in
         record {
           entries = es ++ e ∷ [];
-          fine = accepted-more es e (w .fine) (sym (number-here e) ∙ n);
+          fine = accepted-more es e (w .fine) (sym (number-in es c x e) ∙ n);
           rest = one-read s count (c .count) (c .end) es (w .rest) b h e place g;
           contents =
           record {

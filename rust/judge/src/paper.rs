@@ -698,3 +698,112 @@ impl Journal {
         Fields { rest: bytes }.journal().ok_or(FILE)
     }
 }
+
+#[cfg(test)]
+mod tests {
+    use super::*;
+
+    /// A plain congruential generator, enough for small gliders.
+    struct Dice(u64);
+
+    impl Dice {
+        fn below(&mut self, n: u64) -> u64 {
+            self.0 = self.0.wrapping_mul(6_364_136_223_846_793_005);
+            self.0 = self.0.wrapping_add(1_442_695_040_888_963_407);
+            (self.0 >> 33) % n
+        }
+
+        fn arm(&mut self) -> i64 {
+            self.below(121) as i64 - 60
+        }
+    }
+
+    /// A glider of a few hundred grams whose limits are met among its loads.
+    fn small_glider(dice: &mut Dice) -> (Sums, Sheet) {
+        let g = 1 + dice.below(300);
+        let n = dice.below(g + 1);
+        let fwd = dice.arm();
+        let dry = g + dice.below(80);
+        let sheet = Sheet {
+            fwd,
+            aft: fwd + 1 + dice.below(30) as i64,
+            dry,
+            wet: dry + dice.below(40),
+            nlp: [0, n + 30][dice.below(2) as usize],
+            front_arm: dice.arm(),
+            front_least: dice.below(10),
+            front_most: 10 + dice.below(40),
+            front_step: 1 + dice.below(4),
+            rear_arm: dice.arm(),
+            rear_most: 0,
+            rear_step: 1,
+            water_arm: dice.arm(),
+            capacity: 0,
+            water_step: 1,
+        };
+        let p = dice.below(40) as i64;
+        let mean = (fwd + sheet.aft) / 2;
+        let m = mean * (g as i64 + p) - p * sheet.front_arm;
+        let sums = Sums {
+            g: g.into(),
+            m: m.into(),
+            n: n.into(),
+        };
+        (sums, sheet)
+    }
+
+    #[test]
+    fn the_ends_of_the_water_decide() {
+        let mut dice = Dice(1);
+        let mut kept = [0, 0];
+        for _ in 0..600 {
+            let (sums, sheet) = small_glider(&mut dice);
+            let r = i128::from(dice.below(20));
+            let w = i128::from(dice.below(60));
+            for p in 0..=i128::from(sheet.front_most) {
+                let every = keeps_with_every_water(&sums, &sheet, p, r, w);
+                let ends = keeps_at_both_ends(&sums, &sheet, p, r, w);
+                assert_eq!(every, ends, "{sums:?} {sheet:?} p {p} r {r} w {w}");
+                kept[usize::from(every)] += 1;
+            }
+        }
+        assert!(kept[0] > 2_000 && kept[1] > 2_000, "{kept:?}");
+    }
+
+    /// Case G, with what each front load would be allowed by a test.
+    fn smallest_in_g(allowed: impl Fn(&Sums, &Sheet, i128) -> bool) -> Option<i128> {
+        let sums = Sums {
+            g: 288_000,
+            m: 288_000 * 63_334,
+            n: 140_000,
+        };
+        let sheet = Sheet {
+            fwd: 25_000,
+            aft: 42_500,
+            dry: 380_000,
+            wet: 450_000,
+            nlp: 240_000,
+            front_arm: -47_500,
+            front_least: 55_000,
+            front_most: 110_000,
+            front_step: 1_000,
+            rear_arm: 0,
+            rear_most: 0,
+            rear_step: 1,
+            water_arm: 30_000,
+            capacity: 100_000,
+            water_step: 50_000,
+        };
+        (55_000..=110_000)
+            .step_by(1_000)
+            .find(|p| allowed(&sums, &sheet, *p))
+    }
+
+    #[test]
+    fn a_full_tank_alone_would_begin_at_64_kg() {
+        let full = smallest_in_g(|sums, sheet, p| keeps(sums, sheet, p, 0, 50_000));
+        let every = smallest_in_g(|sums, sheet, p| keeps_every_limit(sums, sheet, p, 0, 50_000));
+        assert_eq!(full, Some(64_000));
+        assert_eq!(every, Some(71_000));
+    }
+}

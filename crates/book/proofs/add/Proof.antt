@@ -1,6 +1,6 @@
 -- `book::add` meets its contract: the entry's call is the one of its kind. Assumes nothing.
 use borrow.Author.Needs.{needs}
-use Rattle.book.specs.Books.{callOf}
+use Rattle.paper.specs.Journal.{callOf}
 use Rattle.book.proofs.add.Statement.{statement}
 use Rattle.book.proofs.add.Tie as tie
 

@@ -1,12 +1,12 @@
 -- `book::turn_on` meets its contract, by what the line says. Assumes nothing.
 use borrow.Author.Needs.{needs}
 use mathlib.Core.Path.{_≡_, sym, ap, _∙_}
-use Rattle.paper.specs.Journal.{undo}
+use Rattle.paper.specs.Journal.{undo, callOf}
 use Rattle.record.specs.Held.{answered}
 use Rattle.language.specs.declared.Line.the-variants as line
 use Rattle.language.specs.Lines.{says}
 use Rattle.book.specs.declared.Ending.the-variants as ending
-use Rattle.book.specs.Books.{callOf, failing, byAnswer, turnOn}
+use Rattle.book.specs.Books.{failing, byAnswer, turnOn}
 use Rattle.book.proofs.turn_on.Statement.{statement}
 use Rattle.book.proofs.turn_on.Tie as tie
 

@@ -12,7 +12,7 @@ use Rattle.format.specs.Numbers.{bytes-at}
 use Rattle.entries.specs.declared.Walk.the-variants.{Got}
 use Rattle.entries.specs.Walking.{walkAt}
 use Rattle.stored.proofs.Reading.{no-entry, refused-entry, left-over, all-read}
-use Rattle.stored.proofs.Walks.{WalkedTo, begun, sound-here, number-here, gone-on, ended, counted}
+use Rattle.stored.proofs.Walks.{WalkedTo, begun, sound-in, number-in, gone-on, ended, counted}
 use Rattle.stored.proofs.survey_entries.Statement.{statement}
 use Rattle.stored.proofs.survey_entries.Tie as tie
 
@@ -49,7 +49,7 @@ returns c =
 judge-requires : tie.Need-judge-requires Inv-loop μ-loop
 judge-requires c κs =
     let m = c .before .before .before .before .before in
-    sound-here (m .before .before .args .s .now) (m .before .before .args .count) _ (m .loop .inv .1)
+    sound-in (m .loop .inv .1 .entries) _ (m .loop .inv .1 .contents)
 
 -- the entry that was read
 module _ (c : tie.After-judge Inv-loop μ-loop) where
@@ -74,7 +74,7 @@ returns-2 c =
     let l = m .loop in
     let a = b .before .args in
     let says = rw (c .enum-told2 .given .1) at (j .judge .ensures) in
-    let number = rw (number-here (a .s .now) (a .count) _ (l .inv .1) (entry j)) at (says .1) in
+    let number = rw (number-in (l .inv .1 .entries) _ (l .inv .1 .contents) (entry j)) at (says .1) in
     refused-entry (a .s .now) (a .count) (l .i) (l .at) (l .inv .1 .entries) (l .inv .1 .rest) (bytes b) (n .before .loop-test .taken) (entry j) _ (found j) number
 
 later-requires : tie.Need-later-requires Inv-loop μ-loop

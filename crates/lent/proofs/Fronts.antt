@@ -1,0 +1,79 @@
+-- A buffer that holds a list: the list is one that calls give, and the buffer begins with its file. Assumes nothing.
+use mathlib.Core.Path.{_≡_, sym, ap, _∙_}
+use mathlib.Core.Bool.{true}
+use mathlib.Core.List.{List, [], _∷_, _++_, append-assoc}
+use mathlib.Core.Option.{some}
+use Prim.Native.Nat.{ℕ, _+_, _-_, _≤_, _<_}
+use native.Mathlib.Decide.{decLe}
+use native.Mathlib.Omega.{arith}
+use lib.ListN.{length, take, drop, length-append, take-append-drop}
+use lib.Seq.{take-all, length-take-le, take-append-seam, take-at, drop-at}
+use Rattle.paper.specs.declared.Entry.{Entry}
+use Rattle.paper.specs.File.{numberOf, fileBytes}
+use Rattle.paper.specs.Refusals.{accepted, fileOf}
+use Rattle.format.specs.Files.{file-accepted}
+use Rattle.stored.specs.Header.{headerOf}
+use Rattle.stored.specs.Found.{bytesIn}
+use Rattle.stored.proofs.Parts.{length-header, file-parts, file-size}
+use Rattle.lent.specs.Lent.{fileIn, heldIn}
+
+-- the first of a list, as many as were taken
+taken-again : (k : ℕ) (s : List ℕ) → take (length (take k s)) s ≡ take k s
+taken-again k s =
+    elim (decLe k (length s)) as (λ d. take (length (take k s)) s ≡ take k s) [
+      | yes h ↦ rw (length-take-le k s h)
+      | no h ↦ rw (take-all k s (omega arith), take-all (length s) s (omega arith))
+    ]
+
+taken-most : (k : ℕ) (s : List ℕ) → length (take k s) ≤ length s
+taken-most k s =
+    elim (decLe k (length s)) as (λ d. length (take k s) ≤ length s) [
+      | yes h ↦ rw (length-take-le k s h) h
+      | no h ↦ rw (take-all k s (omega arith)) (omega arith)
+    ]
+
+-- the front, where the buffer has fewer bytes than its length says, and where it has them
+pub all-of-it : (s : List ℕ) → length s ≤ 4 + numberOf (take 4 s) → s ≡ fileIn s
+unfolding fileIn
+all-of-it s h = sym (take-all (4 + numberOf (take 4 s)) s h)
+
+pub front-of : (s : List ℕ) (n : ℕ) → n ≡ numberOf (take 4 s) → take (n + 4) s ≡ fileIn s
+unfolding fileIn
+front-of s n e = let f : n + 4 ≡ 4 + numberOf (take 4 s) = omega arith in ap (λ (k : ℕ). take k s) f
+
+module _ (s : List ℕ) (es : List Entry) (h : heldIn s ≡ some es) where
+  pub held-accepted : accepted es ≡ true
+  unfolding heldIn
+  held-accepted = file-accepted (fileIn s) es h .0
+
+  file-there : fileIn s ≡ fileBytes es
+  unfolding heldIn
+  file-there = file-accepted (fileIn s) es h .1
+
+  pub held-file : take (length (fileBytes es)) s ≡ fileBytes es
+  unfolding fileIn
+  held-file =
+      ap (λ (xs : List ℕ). take (length xs) s) (sym file-there)
+      ∙ taken-again (4 + numberOf (take 4 s)) s
+      ∙ file-there
+
+  pub held-room : length (fileBytes es) ≤ length s
+  unfolding fileIn
+  held-room = rw (← file-there) (taken-most (4 + numberOf (take 4 s)) s)
+
+-- ---- a buffer that begins with a file
+
+module _ (s : List ℕ) (es : List Entry) (h : take (length (fileBytes es)) s ≡ fileBytes es) where
+  -- its parts
+  pub in-parts : s ≡ headerOf (length (fileBytes es) - 4) (length es) ++ (bytesIn es ++ drop (length (fileBytes es)) s)
+  in-parts =
+      let n = length (fileBytes es) in
+      sym (take-append-drop n s)
+      ∙ ap (λ (xs : List ℕ). xs ++ drop n s) (h ∙ file-parts es)
+      ∙ append-assoc (headerOf (n - 4) (length es)) (bytesIn es) (drop n s)
+
+  pub behind-header : drop 6 s ≡ bytesIn es ++ drop (length (fileBytes es)) s
+  behind-header =
+      let n = length (fileBytes es) in
+      ap (drop 6) in-parts
+      ∙ drop-at (headerOf (n - 4) (length es)) (bytesIn es ++ drop n s) 6 (length-header (n - 4) (length es))

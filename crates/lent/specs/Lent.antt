@@ -1,0 +1,56 @@
+-- A record lent as its file at the front of a buffer: the list that the buffer holds, and what each call answers and leaves of
+-- it. The numbers are the paper's: 12 where the buffer holds no record, then the call's own, then 11 where the buffer is
+-- shorter than the file afterwards. A refusal leaves every byte.
+use mathlib.Core.Bool.{cond}
+use mathlib.Core.List.{List, []}
+use mathlib.Core.Option.{Option, none, some}
+use Prim.Native.Nat.{ℕ, _+_}
+use lib.Dec.{eqb}
+use lib.ListN.{take}
+use Rattle.paper.specs.declared.Entry.{Entry}
+use Rattle.paper.specs.declared.CentreOfGravity.{CentreOfGravity}
+use Rattle.paper.specs.declared.Placard.{Placard}
+use Rattle.paper.specs.File.{numberOf}
+use Rattle.paper.specs.Refusals.{fileOf, readingNumber}
+use Rattle.paper.specs.Answers.{centreRefused, centreAnswer, placardRefused, placardAnswer, writtenAnswer}
+use Rattle.paper.specs.Journal.{Call, read, callNumber, acceptedCall}
+
+-- the bytes of a buffer that its file takes: four, and as many as these say
+unfoldable pub fileIn : List ℕ → List ℕ
+fileIn xs = take (4 + numberOf (take 4 xs)) xs
+
+-- the list that a buffer holds, none where no file stands at its front; what stands behind the file is free
+unfoldable pub heldIn : List ℕ → Option (List Entry)
+heldIn xs = fileOf (fileIn xs)
+
+-- whether it holds one: 0, or 12
+unfoldable pub checkNumber : List ℕ → ℕ
+checkNumber xs = readingNumber (fileIn xs)
+
+-- the file of a list at the front of a buffer, 11 where the buffer is too short for it: the number, and the buffer
+unfoldable pub lentFile : List Entry → List ℕ → ℕ × List ℕ
+lentFile es buffer = (writtenAnswer es buffer .0 .number, writtenAnswer es buffer .1)
+
+-- a call where o is the list that the buffer holds
+unfoldable pub lentBy : Option (List Entry) → Call → List ℕ → ℕ × List ℕ
+lentBy none x buffer = (12, buffer)
+lentBy (some es) x buffer =
+    cond (eqb (callNumber es x) 0) (lentFile (acceptedCall es x) buffer) (callNumber es x, buffer)
+
+-- a weighing, a sheet, a change or taking back
+unfoldable pub lentCall : Call → List ℕ → ℕ × List ℕ
+lentCall x buffer = lentBy (heldIn buffer) x buffer
+
+-- reading back asks nothing of what stands, so the buffer may hold anything
+unfoldable pub lentRead : List ℕ → List ℕ → ℕ × List ℕ
+lentRead xs buffer = lentBy (some []) (read xs) buffer
+
+-- centre of gravity
+unfoldable pub centreFor : Option (List Entry) → CentreOfGravity
+centreFor none = centreRefused 12
+centreFor (some es) = centreAnswer es
+
+-- placard into another buffer: the answer, and that buffer
+unfoldable pub placardFor : Option (List Entry) → List ℕ → Placard × List ℕ
+placardFor none out = placardRefused 12 out
+placardFor (some es) out = placardAnswer es out

@@ -1,0 +1,147 @@
+// The calls on a record that is lent as its file at the front of a buffer. The file is surveyed in place and changed in place;
+// what stands behind it in the buffer is free and stays. Each call answers by the paper's number, 0 where it is accepted.
+use judge::Judged;
+use paper::CentreOfGravity;
+use paper::Entry;
+use paper::Placard;
+use stored::HEADER;
+use stored::Stored;
+ghost use mathlib.Core.Path.{_≡_};
+ghost use mathlib.Core.List.{List, [], _∷_, _++_};
+ghost use Prim.Native.Nat.{_≤_, _<_};
+ghost use lib.ListN.{length, take};
+ghost use Rattle.paper.specs.declared.Entry.{Entry};
+ghost use Rattle.paper.specs.File.{fileBytes};
+ghost use Rattle.paper.specs.Journal.{callOf, undo as Journal·undo};
+ghost use Rattle.stored.specs.Found.{Finds};
+ghost use Rattle.lent.specs.Lent.{fileIn, heldIn, checkNumber, lentFile, lentCall, lentRead, centreFor, placardFor};
+
+// The bytes that the file at the front takes, by the length that it begins with; all of them where that is too long.
+fn front(buffer: &[u8]) -> &[u8]
+    ensures { λ r. ⌜ now r ≡ fileIn (now (buffer .entry)) ⌝ }
+{
+    if buffer.len() < 4 {
+        return buffer;
+    }
+    let behind = words::number_at(buffer, 0, 4) as usize;
+    if buffer.len() - 4 < behind {
+        return buffer;
+    }
+    &buffer[..behind + 4]
+}
+
+// What the buffer holds.
+fn held(buffer: &[u8]) -> Stored
+    ensures { λ r. ⌜ Finds (heldIn (now (buffer .entry))) r ⌝ }
+{
+    stored::survey(front(buffer))
+}
+
+// Whether the buffer holds a record: 0, or 12.
+pub fn check(buffer: &[u8]) -> u64
+    ensures { λ n. ⌜ n ≡ checkNumber (now (buffer .entry)) ⌝ }
+{
+    match held(buffer) {
+        Stored::Nothing => 12,
+        Stored::File(_) => 0,
+    }
+}
+
+// A fresh record at the front of the buffer: 11 where it is too short.
+pub fn fresh(buffer: &mut [u8]) -> u64
+    ensures { λ n. ⌜ (n, now (buffer .exit)) ≡ lentFile [] (now (buffer .entry)) ⌝ }
+{
+    if buffer.len() < HEADER {
+        return 11;
+    }
+    stored::put_header(buffer, 2, 0);
+    0
+}
+
+// An entry behind a file of `count` entries that ends at `end`, where the buffer has room for it.
+fn append(buffer: &mut [u8], end: usize, count: usize, e: Entry) -> u64
+    requires { ⌜ (6 ≤ end) × (end ≤ length (now buffer)) × (count < 64) ⌝ }
+    ensures { λ n. ⌜ ((es : List Entry) → count ≡ length es → take end (now (buffer .entry)) ≡ fileBytes es → (n, now (buffer .exit)) ≡ lentFile (es ++ e ∷ []) (now (buffer .entry))) ⌝ }
+{
+    if buffer.len() - end < entries::length_of(e) {
+        return 11;
+    }
+    let behind = entries::put_entry(buffer, end, e);
+    stored::put_header(buffer, behind - 4, count + 1);
+    0
+}
+
+// A weighing, a data sheet or a change.
+pub fn add(buffer: &mut [u8], e: Entry) -> u64
+    ensures { λ n. ⌜ (n, now (buffer .exit)) ≡ lentCall (callOf e) (now (buffer .entry)) ⌝ }
+{
+    let Stored::File(found) = held(buffer) else {
+        return 12;
+    };
+    let standing = found.standing;
+    match judge::judge(found.count, standing, e) {
+        Judged::Refused(number) => number,
+        Judged::Accepted(_) => append(buffer, found.end, found.count, e),
+    }
+}
+
+// Taking back: the header says one entry less, and its bytes are free.
+pub fn undo(buffer: &mut [u8]) -> u64
+    ensures { λ n. ⌜ (n, now (buffer .exit)) ≡ lentCall Journal·undo (now (buffer .entry)) ⌝ }
+{
+    let Stored::File(found) = held(buffer) else {
+        return 12;
+    };
+    if found.count == 0 {
+        return 10;
+    }
+    stored::put_header(buffer, found.last - 4, found.count - 1);
+    0
+}
+
+// Reading back: a file in the place of what the buffer holds.
+pub fn read(buffer: &mut [u8], file: &[u8]) -> u64
+    ensures { λ n. ⌜ (n, now (buffer .exit)) ≡ lentRead (now (file .entry)) (now (buffer .entry)) ⌝ }
+{
+    let Stored::File(_) = stored::survey(file) else {
+        return 12;
+    };
+    if buffer.len() < file.len() {
+        return 11;
+    }
+    bytes::copy(file, buffer);
+    0
+}
+
+// Total, moment and empty centre of gravity.
+pub fn centre(buffer: &[u8]) -> CentreOfGravity
+    ensures { λ r. ⌜ r ≡ centreFor (heldIn (now (buffer .entry))) ⌝ }
+{
+    let Stored::File(found) = held(buffer) else {
+        return CentreOfGravity {
+            number: 12,
+            total: 0,
+            moment: 0,
+            centre: 0,
+        };
+    };
+    let standing = found.standing;
+    record::centre(standing)
+}
+
+// The placard, into another buffer.
+pub fn placard(buffer: &[u8], out: &mut [u8]) -> Placard
+    ensures { λ a. ⌜ (a, now (out .exit)) ≡ placardFor (heldIn (now (buffer .entry))) (now (out .entry)) ⌝ }
+{
+    let Stored::File(found) = held(buffer) else {
+        return Placard {
+            number: 12,
+            bytes: 0,
+            rows: 0,
+            blank: 0,
+        };
+    };
+    let standing = found.standing;
+    let sheet = found.sheet;
+    plate::answer(standing, sheet, out)
+}

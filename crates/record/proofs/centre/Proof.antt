@@ -1,0 +1,41 @@
+-- `record::centre` meets its contract: what stands is the balance of the list, or there is none. Assumes nothing.
+use borrow.Author.Needs.{needs}
+use mathlib.Core.Path.{sym, _∙_, ap}
+use mir.Facts.{toZ-ofZ}
+use Rattle.balance.specs.Balance.{plain, Bounded}
+use Rattle.judge.specs.Standing.{plainly}
+use Rattle.judge.proofs.Judging.{of-weighed}
+use Rattle.record.proofs.Calls.{centre-none, centre-some}
+use Rattle.record.proofs.centre.Statement.{statement}
+use Rattle.record.proofs.centre.Tie as tie
+
+enum-known-standing : tie.Need-enum-known-standing
+enum-known-standing c = search needs
+
+enum-told : tie.Need-enum-told
+enum-told c = search needs
+
+returns : tie.Need-returns
+returns c es w = sym (centre-none _ (sym w ∙ ap plainly (c .enum-told .given .1)))
+
+-- the balance that stands has its bounds
+stands : (c : tie.After-known-told) → Bounded 4096 (c .before .standing .given .0 .0)
+stands c = of-weighed 4096 _ _ (c .before .standing .given .1) (c .before .before .before .pre)
+
+moment-requires : tie.Need-moment-requires
+moment-requires c κs = stands c
+
+centre-requires : tie.Need-centre-requires
+centre-requires c κs = stands (c .before)
+
+returns-2 : tie.Need-returns-2
+returns-2 c es w =
+    let k = c .before .before .before in
+    let e = sym w ∙ ap plainly (k .standing .given .1) in
+    rw (toZ-ofZ (record { sfits = c .before .moment .ok }), toZ-ofZ (record { sfits = c .centre .ok }), c .before .moment .ensures, c .centre .ensures)
+    (sym (centre-some _ (plain (k .standing .given .0 .0)) e))
+
+pub centre-spec : {M : Type 1} → statement M
+centre-spec =
+    tie.close
+    (tie.spec enum-known-standing enum-told returns moment-requires centre-requires returns-2)

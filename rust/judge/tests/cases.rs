@@ -1,0 +1,270 @@
+//! The paper's plates A to K, the figures of document 000 that it quotes, and
+//! what it says to be run.
+
+mod common;
+
+use common::Both;
+use judge::direct;
+use judge::paper::{Call, Change, Journal, Sheet, Weighing};
+
+fn weigh(m: u64, p: u64, q: u64, a: i64, b: u64, n: u64) -> Call {
+    Call::Weigh(Weighing { m, p, q, a, b, n })
+}
+
+fn change(c: i64, arm: i64, flag: u64) -> Call {
+    Call::Change(Change { c, arm, flag })
+}
+
+/// The weighing of cases A, B and J.
+fn blanik() -> Call {
+    weigh(1, 310_000, 29_900, 9_500, 550_000, 0)
+}
+
+/// The weighing of case G.
+fn astir() -> Call {
+    weigh(1, 288_000, 0, 63_334, 500_000, 140_000)
+}
+
+/// The sheet of case G.
+const ASTIR: Sheet = Sheet {
+    fwd: 25_000,
+    aft: 42_500,
+    dry: 380_000,
+    wet: 450_000,
+    nlp: 240_000,
+    front_arm: -47_500,
+    front_least: 55_000,
+    front_most: 110_000,
+    front_step: 1_000,
+    rear_arm: 0,
+    rear_most: 0,
+    rear_step: 1,
+    water_arm: 30_000,
+    capacity: 100_000,
+    water_step: 50_000,
+};
+
+/// The sheet of case J.
+const BLANIK: Sheet = Sheet {
+    fwd: 11_200,
+    aft: 30_000,
+    dry: 500_000,
+    wet: 500_000,
+    nlp: 0,
+    front_arm: -123_200,
+    front_least: 0,
+    front_most: 110_000,
+    front_step: 1_000,
+    rear_arm: -11_200,
+    rear_most: 110_000,
+    rear_step: 55_000,
+    water_arm: 0,
+    capacity: 0,
+    water_step: 1,
+};
+
+/// Case G with other front steps and some ballast bars at the nose.
+fn astir_with_bars(bars: i64, front_step: u64) -> String {
+    let mut both = Both::new();
+    both.accept(&astir());
+    both.accept(&Call::Install(Sheet {
+        front_step,
+        front_least: 0,
+        ..ASTIR
+    }));
+    if bars != 0 {
+        both.accept(&change(bars, -100_000, 1));
+    }
+    both.placard_text()
+}
+
+/// Smallest and largest front load of a placard's line.
+fn range(placard: &str, line: usize) -> (&str, &str) {
+    let line = placard.lines().nth(line).unwrap();
+    (&line[18..26], &line[27..35])
+}
+
+/// Total, moment and centre of one weighing.
+fn centre(call: Call) -> (u64, i64, i64) {
+    let mut both = Both::new();
+    both.accept(&call);
+    let centre = both.centre().unwrap();
+    (centre.total, centre.moment, centre.centre)
+}
+
+#[test]
+fn a_to_f_total_moment_and_centre() {
+    let a = (310_000, 19_390_000_000, 62_548);
+    assert_eq!(centre(blanik()), a);
+    assert_eq!(centre(weigh(2, 310_000, 280_100, -9_500, 550_000, 0)), a);
+    let (total, moment, _) = centre(weigh(3, 355, 90, 50, 13_350, 0));
+    assert_eq!((total, moment), (445, 1_179_250));
+    let (total, moment, _) = centre(weigh(4, 460, 15, 3_000, 10_300, 0));
+    assert_eq!((total, moment), (445, 1_180_500));
+    assert_eq!(centre(weigh(1, 2, 1, 0, 50_001, 0)).2, 25_001);
+    assert_eq!(centre(weigh(1, 2, 1, -50_001, 50_001, 0)).2, -25_000);
+}
+
+#[test]
+fn g_prints_its_three_rows() {
+    let mut both = Both::new();
+    both.accept(&astir());
+    both.accept(&Call::Install(ASTIR));
+    assert_eq!(
+        both.placard_text(),
+        "0000.000 0000.000 0071.000 0092.000\n\
+         0000.000 0050.000 0071.000 0092.000\n\
+         0000.000 0100.000 -------- --------\n"
+    );
+}
+
+#[test]
+fn h_begins_at_64_kg() {
+    let placard = astir_with_bars(4_500, 1_000);
+    assert_eq!(range(&placard, 0), ("0064.000", "0087.000"));
+    // The exact minimum is between 63.000 and 63.001.
+    let placard = astir_with_bars(4_500, 1);
+    assert_eq!(range(&placard, 0).0, "0063.001");
+}
+
+#[test]
+fn i_is_blank() {
+    let mut both = Both::new();
+    both.accept(&astir());
+    both.accept(&Call::Install(Sheet {
+        front_arm: 41_625,
+        ..ASTIR
+    }));
+    assert_eq!(both.placard(9_216).unwrap().blank, 3);
+}
+
+#[test]
+fn j_prints_three_rear_loads() {
+    let mut both = Both::new();
+    both.accept(&blanik());
+    both.accept(&Call::Install(BLANIK));
+    assert_eq!(
+        both.placard_text(),
+        "0000.000 0000.000 0069.000 0110.000\n\
+         0055.000 0000.000 0054.000 0109.000\n\
+         0110.000 0000.000 0040.000 0080.000\n"
+    );
+}
+
+#[test]
+fn k_is_six_bytes() {
+    assert_eq!(Journal::new().file(), [0, 0, 0, 2, 1, 0]);
+    let mut buffer = [9; 8];
+    assert_eq!(direct::fresh(&mut buffer), 0);
+    assert_eq!(buffer, [0, 0, 0, 2, 1, 0, 9, 9]);
+}
+
+#[test]
+fn document_000_with_ballast_bars() {
+    for (bars, least) in [
+        (1_500, "0068.000"),
+        (3_000, "0066.000"),
+        (6_000, "0061.000"),
+    ] {
+        assert_eq!(range(&astir_with_bars(bars, 1_000), 0).0, least);
+    }
+    // 380 kg leaves 89 and 86.
+    for (bars, most) in [(3_000, "0089.000"), (6_000, "0086.000")] {
+        assert_eq!(range(&astir_with_bars(bars, 1_000), 0).1, most);
+    }
+    // The formula's 67.77 kg for one bar: 67.767 and a fifth of a gram.
+    assert_eq!(range(&astir_with_bars(1_500, 1), 0).0, "0067.768");
+}
+
+/// 416.25 mm for 250..425: with the seats empty and no water the centre is on
+/// the limit, or one unit of moment behind it.
+#[test]
+fn the_safe_aft_limit_is_five_per_cent_inside() {
+    let sheet = Sheet {
+        front_least: 0,
+        front_most: 0,
+        capacity: 0,
+        ..ASTIR
+    };
+    for (behind, blank) in [(0, 0), (1, 1)] {
+        let mut both = Both::new();
+        both.accept(&weigh(1, 288_000, behind, 41_625, 1, 0));
+        both.accept(&Call::Install(sheet));
+        assert_eq!(both.placard(36).unwrap().blank, blank);
+    }
+}
+
+#[test]
+fn the_64th_and_the_65th_entry() {
+    let mut both = Both::new();
+    both.accept(&astir());
+    for i in 1..64 {
+        both.accept(&change(if i % 2 == 1 { 500 } else { -500 }, -20_000, 0));
+    }
+    for call in [astir(), Call::Install(ASTIR), change(1, 0, 0)] {
+        assert_eq!(both.call(&call), 9);
+    }
+    both.accept(&Call::Undo);
+    both.accept(&Call::Install(ASTIR));
+    assert_eq!(both.call(&change(1, 0, 0)), 9);
+    for _ in 0..64 {
+        both.accept(&Call::Undo);
+    }
+    assert_eq!(both.call(&Call::Undo), 10);
+}
+
+#[test]
+fn the_longest_file() {
+    let mut both = Both::new();
+    for _ in 0..64 {
+        both.accept(&Call::Install(ASTIR));
+    }
+    let file = both.journal.file();
+    assert_eq!(file.len(), 3_910);
+    assert_eq!(both.call(&Call::Read(file)), 0);
+}
+
+#[test]
+fn rows_256_and_257() {
+    for (rear_most, capacity, number) in [
+        (255, 0, 0),
+        (256, 0, 5),
+        (0, 255, 0),
+        (0, 256, 5),
+        (15, 15, 0),
+        (15, 16, 5),
+        (1, 127, 0),
+        (2, 85, 5),
+    ] {
+        let sheet = Sheet {
+            rear_most,
+            capacity,
+            rear_step: 1,
+            water_step: 1,
+            ..ASTIR
+        };
+        let mut both = Both::new();
+        both.accept(&astir());
+        assert_eq!(both.call(&Call::Install(sheet)), number);
+        if number == 0 {
+            assert_eq!(both.placard(9_216).unwrap().rows, 256);
+            assert_eq!(both.placard(9_215), Err(11));
+        }
+    }
+}
+
+#[test]
+fn one_byte_too_few() {
+    let mut both = Both::new();
+    both.accept(&astir());
+    both.accept(&Call::Install(ASTIR));
+    assert_eq!(both.placard(107), Err(11));
+    assert_eq!(both.placard(108).unwrap().bytes, 108);
+    let file = both.journal.file();
+    let mut out = vec![7; file.len() - 1];
+    assert_eq!(both.journal.write(&mut out), Err(11));
+    assert!(out.iter().all(|byte| *byte == 7));
+    let mut short = vec![7; file.len() - 1];
+    assert_eq!(direct::call(&mut short, &Call::Read(file)), 11);
+    assert!(short.iter().all(|byte| *byte == 7));
+}

@@ -1,0 +1,402 @@
+//! The table of refusals: the order of the numbers, the edges of the ranges and
+//! arguments of any size.
+
+mod common;
+
+use common::Both;
+use judge::direct;
+use judge::paper::{Call, Change, Sheet, Weighing};
+
+const WEIGHING: Weighing = Weighing {
+    m: 1,
+    p: 300_000,
+    q: 20_000,
+    a: 10_000,
+    b: 500_000,
+    n: 100_000,
+};
+
+const SHEET: Sheet = Sheet {
+    fwd: 20_000,
+    aft: 40_000,
+    dry: 420_000,
+    wet: 500_000,
+    nlp: 300_000,
+    front_arm: -60_000,
+    front_least: 50_000,
+    front_most: 110_000,
+    front_step: 1_000,
+    rear_arm: 0,
+    rear_most: 100_000,
+    rear_step: 50_000,
+    water_arm: 30_000,
+    capacity: 100_000,
+    water_step: 50_000,
+};
+
+const CHANGE: Change = Change {
+    c: 1_000,
+    arm: -50_000,
+    flag: 1,
+};
+
+/// The number of a call on a record with one weighing.
+fn number(call: Call) -> u64 {
+    let mut both = Both::new();
+    both.accept(&Call::Weigh(WEIGHING));
+    both.call(&call)
+}
+
+fn weigh(w: Weighing) -> u64 {
+    number(Call::Weigh(w))
+}
+
+fn install(s: Sheet) -> u64 {
+    number(Call::Install(s))
+}
+
+fn change(c: Change) -> u64 {
+    number(Call::Change(c))
+}
+
+fn full() -> Both {
+    let mut both = Both::new();
+    for _ in 0..64 {
+        both.accept(&Call::Weigh(WEIGHING));
+    }
+    both
+}
+
+#[test]
+fn weighing_is_refused_in_the_order_9_1_2_3() {
+    let mut w = Weighing {
+        m: 5,
+        b: 0,
+        n: 300_001,
+        ..WEIGHING
+    };
+    assert_eq!(full().call(&Call::Weigh(w)), 9);
+    assert_eq!(weigh(w), 1);
+    w.m = 1;
+    assert_eq!(weigh(w), 2);
+    w.b = 1;
+    assert_eq!(weigh(w), 3);
+    w.n = 300_000;
+    assert_eq!(weigh(w), 0);
+}
+
+#[test]
+fn sheet_is_refused_in_the_order_9_2_4_5() {
+    let mut s = Sheet {
+        water_arm: 2_000_001,
+        dry: 0,
+        rear_step: 0,
+        ..SHEET
+    };
+    assert_eq!(full().call(&Call::Install(s)), 9);
+    assert_eq!(install(s), 2);
+    s.water_arm = 2_000_000;
+    assert_eq!(install(s), 4);
+    s.dry = 1;
+    assert_eq!(install(s), 5);
+    s.rear_step = 1;
+    assert_eq!(install(s), 5);
+    s.rear_step = 10_000;
+    assert_eq!(install(s), 0);
+}
+
+#[test]
+fn change_is_refused_in_the_order_9_7_2_6_3() {
+    let mut c = Change {
+        c: 0,
+        arm: -2_000_001,
+        flag: 2,
+    };
+    assert_eq!(full().call(&Call::Change(c)), 9);
+    assert_eq!(Both::new().call(&Call::Change(c)), 7);
+    assert_eq!(change(c), 2);
+    c.arm = -2_000_000;
+    assert_eq!(change(c), 6);
+    c.c = -100_001;
+    assert_eq!(change(c), 6);
+    c.flag = 1;
+    assert_eq!(change(c), 3);
+    c.c = -100_000;
+    assert_eq!(change(c), 0);
+}
+
+#[test]
+fn readings_by_method() {
+    const TOP: u64 = 2_000_000;
+    for (m, p, q, expected) in [
+        (0, 10, 5, 1),
+        (5, 10, 5, 1),
+        (1, 0, 0, 1),
+        (1, 1, 1, 0),
+        (1, 1, 2, 1),
+        (2, 9, 9, 0),
+        (2, 9, 10, 1),
+        (1, TOP, TOP, 0),
+        (1, TOP + 1, 0, 1),
+        (3, 0, 0, 1),
+        (3, 0, 1, 0),
+        (3, TOP, 0, 0),
+        (3, TOP, 1, 1),
+        (3, 5, TOP + 1, 1),
+        (4, 1, 0, 0),
+        (4, 1, 1, 1),
+        (4, 1, 2, 1),
+        (4, TOP, TOP - 1, 0),
+        (4, TOP + 1, 1, 1),
+        (4, u64::MAX, u64::MAX - 1, 1),
+        (3, u64::MAX, 2, 1),
+    ] {
+        let w = Weighing {
+            m,
+            p,
+            q,
+            n: 0,
+            ..WEIGHING
+        };
+        assert_eq!(weigh(w), expected, "m {m} p {p} q {q}");
+    }
+}
+
+#[test]
+fn sheet_ranges() {
+    let arms = |fwd, aft| install(Sheet { fwd, aft, ..SHEET });
+    assert_eq!(arms(-2_000_000, 2_000_000), 0);
+    assert_eq!(arms(-2_000_001, 2_000_000), 2);
+    assert_eq!(arms(5, 6), 0);
+    assert_eq!(arms(5, 5), 4);
+    assert_eq!(arms(6, 5), 4);
+    let weights = |dry, wet, nlp| {
+        install(Sheet {
+            dry,
+            wet,
+            nlp,
+            ..SHEET
+        })
+    };
+    assert_eq!(weights(1, 1, 0), 0);
+    assert_eq!(weights(0, 1, 0), 4);
+    assert_eq!(weights(2, 1, 0), 4);
+    assert_eq!(weights(2_000_000, 2_000_000, 2_000_000), 0);
+    assert_eq!(weights(2_000_000, 2_000_001, 0), 4);
+    assert_eq!(weights(1, 1, 2_000_001), 4);
+    let front = |front_least, front_most, front_step| {
+        install(Sheet {
+            front_least,
+            front_most,
+            front_step,
+            ..SHEET
+        })
+    };
+    assert_eq!(front(500_000, 500_000, 500_000), 0);
+    assert_eq!(front(500_001, 500_000, 1), 4);
+    assert_eq!(front(0, 500_001, 1), 4);
+    assert_eq!(front(0, 0, 1), 0);
+    assert_eq!(front(0, 0, 0), 5);
+    assert_eq!(front(0, 0, 500_001), 5);
+}
+
+#[test]
+fn rear_and_water_ranges() {
+    let rear = |rear_most, rear_step| {
+        install(Sheet {
+            rear_most,
+            rear_step,
+            ..SHEET
+        })
+    };
+    assert_eq!(rear(500_000, 500_000), 0);
+    assert_eq!(rear(500_001, 500_000), 4);
+    assert_eq!(rear(0, 0), 5);
+    assert_eq!(rear(0, 500_001), 5);
+    let water = |capacity, water_step| {
+        install(Sheet {
+            capacity,
+            water_step,
+            ..SHEET
+        })
+    };
+    assert_eq!(water(2_000_000, 2_000_000), 0);
+    assert_eq!(water(2_000_001, 2_000_000), 4);
+    assert_eq!(water(0, 0), 5);
+    assert_eq!(water(0, 2_000_001), 5);
+    assert_eq!(water(u64::MAX, 1), 4);
+}
+
+#[test]
+fn weight_after_a_change() {
+    let flagged = |c, flag| change(Change { c, flag, ..CHANGE });
+    // G is 300,000 and n 100,000 before.
+    assert_eq!(flagged(-299_999, 0), 3);
+    assert_eq!(flagged(-300_000, 0), 6);
+    assert_eq!(flagged(1_700_000, 0), 0);
+    assert_eq!(flagged(1_700_001, 0), 6);
+    assert_eq!(flagged(-200_000, 0), 0);
+    assert_eq!(flagged(-200_001, 0), 3);
+    assert_eq!(flagged(-100_000, 1), 0);
+    assert_eq!(flagged(-100_001, 1), 3);
+    assert_eq!(flagged(i64::MIN, 1), 6);
+    assert_eq!(flagged(i64::MAX, 1), 6);
+    assert_eq!(flagged(1, u64::MAX), 6);
+}
+
+/// A value that is good in its low four bytes only is still refused, and no
+/// argument of any size overflows.
+#[test]
+fn arguments_of_any_size() {
+    let big = [1 << 31, 1 << 32, (1 << 32) + 1, 1 << 63, u64::MAX];
+    for value in big {
+        let signed = value as i64;
+        for w in [
+            Weighing {
+                m: value,
+                ..WEIGHING
+            },
+            Weighing {
+                p: value,
+                ..WEIGHING
+            },
+            Weighing {
+                q: value,
+                ..WEIGHING
+            },
+        ] {
+            assert_eq!(weigh(w), 1);
+        }
+        assert_eq!(
+            weigh(Weighing {
+                b: value,
+                ..WEIGHING
+            }),
+            2
+        );
+        assert_eq!(
+            weigh(Weighing {
+                n: value,
+                ..WEIGHING
+            }),
+            3
+        );
+        assert_eq!(
+            install(Sheet {
+                dry: value,
+                ..SHEET
+            }),
+            4
+        );
+        assert_eq!(
+            install(Sheet {
+                nlp: value,
+                ..SHEET
+            }),
+            4
+        );
+        assert_eq!(
+            install(Sheet {
+                front_step: value,
+                ..SHEET
+            }),
+            5
+        );
+        assert_eq!(
+            change(Change {
+                flag: value,
+                ..CHANGE
+            }),
+            6
+        );
+        if signed.unsigned_abs() > 2_000_000 {
+            assert_eq!(
+                weigh(Weighing {
+                    a: signed,
+                    ..WEIGHING
+                }),
+                2
+            );
+            assert_eq!(
+                install(Sheet {
+                    fwd: signed,
+                    ..SHEET
+                }),
+                2
+            );
+            assert_eq!(
+                change(Change {
+                    arm: signed,
+                    ..CHANGE
+                }),
+                2
+            );
+            assert_eq!(
+                change(Change {
+                    c: signed,
+                    ..CHANGE
+                }),
+                6
+            );
+        }
+    }
+}
+
+#[test]
+fn placard_and_centre_need_their_entries() {
+    let mut both = Both::new();
+    assert_eq!(both.centre(), Err(7));
+    assert_eq!(both.placard(0), Err(7));
+    both.accept(&Call::Install(SHEET));
+    assert_eq!(both.placard(0), Err(7));
+    both.accept(&Call::Undo);
+    both.accept(&Call::Weigh(WEIGHING));
+    assert_eq!(both.placard(0), Err(8));
+    both.accept(&Call::Install(SHEET));
+    assert_eq!(both.placard(0), Err(11));
+}
+
+/// "G, M and n are those of the last weighing in the list and the changes
+/// behind it", also after taking back.
+#[test]
+fn the_last_weighing_counts() {
+    let mut both = Both::new();
+    both.accept(&Call::Weigh(WEIGHING));
+    both.accept(&Call::Change(CHANGE));
+    let before = both.centre();
+    assert_eq!(before.unwrap().total, 301_000);
+    both.accept(&Call::Weigh(Weighing {
+        p: 250_000,
+        ..WEIGHING
+    }));
+    assert_eq!(both.centre().unwrap().total, 250_000);
+    both.accept(&Call::Undo);
+    assert_eq!(both.centre(), before);
+}
+
+#[test]
+fn a_lent_buffer() {
+    let mut tiny = [9; 5];
+    assert_eq!(direct::fresh(&mut tiny), 11);
+    assert_eq!(direct::check(&tiny), 12);
+    assert_eq!(direct::call(&mut tiny, &Call::Undo), 12);
+    assert_eq!(tiny, [9; 5]);
+    // Just enough for a weighing; nothing fits behind it, and what the call
+    // itself refuses comes before that.
+    let mut buffer = [9; 28];
+    assert_eq!(direct::fresh(&mut buffer), 0);
+    assert_eq!(direct::call(&mut buffer, &Call::Weigh(WEIGHING)), 0);
+    let written = buffer;
+    assert_eq!(direct::call(&mut buffer, &Call::Change(CHANGE)), 11);
+    let bad = Change { flag: 2, ..CHANGE };
+    assert_eq!(direct::call(&mut buffer, &Call::Change(bad)), 6);
+    assert_eq!(buffer, written);
+    // Taking back leaves the entry's bytes where they were.
+    assert_eq!(direct::call(&mut buffer, &Call::Undo), 0);
+    assert_eq!(buffer[..6], [0, 0, 0, 2, 1, 0]);
+    assert_eq!(buffer[6..], written[6..]);
+    // Bytes that are no file are refused before the room is looked at.
+    assert_eq!(direct::call(&mut tiny, &Call::Read(vec![0; 40])), 12);
+    let file = written[..28].to_vec();
+    assert_eq!(direct::call(&mut tiny, &Call::Read(file)), 11);
+}
