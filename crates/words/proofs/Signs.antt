@@ -1,6 +1,6 @@
--- Two's complement in four bytes, either way: by the side of 0 that a number is on. Assumes nothing.
-use mathlib.Core.Path.{_≡_, ap}
-use Prim.Native.Nat.{ℕ, _*_, _-_, _≤_, _<_}
+-- Two's complement, either way: by the side of 0 that a number is on. Assumes nothing.
+use mathlib.Core.Path.{_≡_, sym, ap, _∙_}
+use Prim.Native.Nat.{ℕ, suc, _*_, _-_, _^_, _≤_, _<_}
 use native.Mathlib.Omega.{arith}
 use lib.IntN.{ℤ, pos, negsuc, _-ℤ_}
 use borrow.Author.Tests.{le-leb, lt-leb}
@@ -9,11 +9,11 @@ use Rattle.paper.specs.File.{complement, signedWord, fieldValue}
 
 -- ---- the word of a number
 
-pub from-nought : (x : ℤ) (n : ℕ) → pos n ≡ x → n ≡ complement 4 x
-from-nought x n e = ap (complement 4) e
+pub from-nought : (k : ℕ) (x : ℤ) (n : ℕ) → pos n ≡ x → n ≡ complement k x
+from-nought k x n e = ap (complement k) e
 
-pub below-nought : (x : ℤ) (n : ℕ) → x ≡ negsuc n → n < 4294967296 → 4294967295 - n ≡ complement 4 x
-below-nought x n e h = rw e (omega arith)
+pub below-nought : (k : ℕ) (x : ℤ) (n m : ℕ) → x ≡ negsuc n → m ≡ 256 ^ k - suc n → m ≡ complement k x
+below-nought k x n m e f = f ∙ sym (ap (complement k) e)
 
 pub far-below : (x : ℤ) (n : ℕ) → x ≡ negsuc n → 4294967296 ≤ n → 0 ≡ complement 4 x
 far-below x n e h = rw e (omega arith)

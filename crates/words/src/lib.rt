@@ -48,6 +48,16 @@ pub fn word_of(x: i64) -> u64
     }
 }
 
+// A signed number as the word of eight bytes that stands for it.
+pub fn long_of(x: i64) -> u64
+    ensures { λ r. ⌜ r ≡ complement 8 x ⌝ }
+{
+    if 0 <= x {
+        return laws::size(x);
+    }
+    18_446_744_073_709_551_615 - laws::under(x)
+}
+
 // The signed number that a word stands for.
 pub fn signed(n: u32) -> i64
     ensures { λ r. ⌜ r ≡ fieldValue signedWord n ⌝ }

@@ -11,7 +11,8 @@
 //! most 63·4e12, so M stays below 2.6e14. A front and a rear load add 1e12
 //! each and the water 4e12, so S stays below 2.7e14 and 20·S below 5.4e15. On
 //! the other side T is at most 2e6 + 5e5 + 5e5 + 2e6 = 5e6 and 19·AFT + FWD at
-//! most 4e7, so their product is at most 2e14. An `i64` holds 9.2e18.
+//! most 4e7, so their product is at most 2e14. The coefficients of P, at most
+//! 4e6 and 8e7, times a front step of 5e5 come to 4e13. An `i64` holds 9.2e18.
 
 use crate::paper::{Call, Centre, Change, Counts, Sheet, Weighing};
 
@@ -296,6 +297,7 @@ fn record(buffer: &[u8]) -> Answer<Record> {
     walk(buffer).ok_or(12)
 }
 
+/// Walks the entries; none where the front of the buffer is no file.
 fn walk(buffer: &[u8]) -> Option<Record> {
     let head = buffer.first_chunk::<HEAD>()?;
     let length = LENGTH.checked_add(unsigned(head, 0) as usize)?;
@@ -426,21 +428,23 @@ pub fn centre(buffer: &[u8]) -> Result<Centre, u64> {
 
 // ---- A row ----
 
-/// The limits of a sheet, made ready for the numbers k of front steps.
+/// The limits of a sheet, made ready for the number k of front steps.
 ///
-/// With P = k·step every line of "A row" reads factor·k ≤ room, where the factor
-/// is the same for all rows and only the room depends on rear load and water.
+/// With P = k·step every line of "A row" reads factor·k ≤ room. The factor is
+/// the same for all rows; only the room depends on rear load and water. So a
+/// row takes three divisions: the weights, S ≥ FWD·T and the safe aft limit.
 struct Limits {
-    /// Front steps allowed by the least and the greatest front load.
+    /// Front steps between the least and the greatest front load.
     steps: Steps,
-    /// Front step: the factor of the weights.
+    /// The front step, which is the factor of the weights.
     step: i64,
-    /// What DRY and the non-lifting limit leave for the loads; WET with water.
+    /// What DRY and NLP leave for both loads.
     dry: i64,
+    /// What WET leaves for both loads and the water.
     wet: i64,
-    /// S ≥ FWD·T: factor, room without loads, room for each gram of load.
+    /// S ≥ FWD·T.
     forward: Line,
-    /// 20·S ≤ (19·AFT + FWD)·T likewise.
+    /// 20·S ≤ (19·AFT + FWD)·T.
     aft: Line,
 }
 
@@ -453,8 +457,8 @@ struct Line {
 }
 
 impl Line {
-    /// The least room from no water to w: it changes evenly with the water, so
-    /// that one of the ends is the tightest.
+    /// The least room for any water from 0 to w. It changes evenly with the
+    /// water and the factor does not, so that one of the ends is the tightest.
     fn room(&self, r: i64, w: i64) -> i64 {
         self.room + r * self.rear + (w * self.water).min(0)
     }

@@ -151,8 +151,11 @@ fn beside_a_limit(random: &mut Random, s: &Sheet) -> i64 {
 fn arms_case(random: &mut Random) -> Vec<Call> {
     let mut glider = any_glider(random);
     let s = &mut glider.sheet;
-    if random.one_in(3) {
-        s.aft = s.fwd + random.between(1, 45);
+    match random.below(4) {
+        0 => s.aft = s.fwd + random.between(1, 45),
+        // The safe aft limit is a whole unit.
+        1 => s.aft = s.fwd + 20 * random.between(1, 900),
+        _ => {}
     }
     if !random.one_in(4) {
         s.front_arm = beside_a_limit(random, s);
@@ -163,7 +166,11 @@ fn arms_case(random: &mut Random) -> Vec<Call> {
     if random.one_in(3) {
         s.water_arm = beside_a_limit(random, s);
     }
-    glider.meet_somewhere(random, &[0, 0, 1, -1, 20, 100_000]);
+    if random.one_in(3) {
+        glider.meet_aft_closely(random);
+    } else {
+        glider.meet_somewhere(random, &[0, 0, 1, -1, 100_000]);
+    }
     let mut calls = glider.record_exactly(random);
     if random.one_in(4) {
         // A gram on a limit's own arm: the rows should hardly move.
@@ -182,6 +189,9 @@ fn datum_case(random: &mut Random) -> Vec<Call> {
     let mut glider = any_glider(random);
     if random.one_in(3) {
         glider.meet_somewhere(random, &[0, 1, -1]);
+    }
+    if random.one_in(5) {
+        glider.halve_centre(random);
     }
     let (ahead, back) = glider.datum_range();
     let s = &glider.sheet;
@@ -439,8 +449,10 @@ fn rows_case(random: &mut Random) -> Vec<Call> {
         odd_front(random, &mut glider);
     }
     lighten(random, &mut glider.sheet);
-    if random.one_in(3) {
-        glider.meet_somewhere(random, &[0, 1_000, 1_000_000]);
+    match random.below(7) {
+        0 | 1 => glider.meet_somewhere(random, &[0, 1_000, 1_000_000]),
+        2 => glider.leave_no_load(random),
+        _ => {}
     }
     glider.record(random)
 }

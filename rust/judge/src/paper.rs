@@ -8,19 +8,26 @@
 //!
 //! - FWD < AFT is a range of the sheet and not the range of an arm ("an arm lies
 //!   in −2,000,000..2,000,000"), so a sheet that breaks it is refused with 4.
-//! - "No weight in it is negative" and "a weight is at most 2,000,000 g" hold for
-//!   DRY, WET, NLP and the capacity alike: number 4. The steps are weights too,
-//!   but all their ranges belong to number 5.
-//! - A file is a whole one: bytes behind its stated length make it no file.
-//! - In a method out of 1..4 there is no G; the call is refused with 1 anyway.
-//! - What a call refuses is tested in the paper's order, and all conditions of
-//!   one number count together: the first number of the order that holds.
+//! - "A weight is at most 2,000,000 g" holds for DRY, WET, NLP and the capacity
+//!   alike: number 4. All ranges of the steps belong to number 5.
+//! - DRY below G and NLP below n are no refusal; they make blank rows.
+//! - All conditions of one number count together, and the numbers are tested in
+//!   the paper's order. In a method outside 1..4 there is no G to be tested, and
+//!   rows are not counted where a step is out of range; the number is the same.
+//! - A flag other than 0 and 1 is out of range: number 6.
+//! - Steps are multiples of the front step, counted from 0 and not from the
+//!   least front load. "A front load of 0 counts as a load" where least is 0.
+//! - A file is a whole one: with a byte over or missing it is none.
+//! - Reading back does not ask whether the record is full: it replaces it.
 
+// Limits: greatest weight, arm and seat load, and the counts.
 const WEIGHT: i128 = 2_000_000;
 const ARM: i128 = 2_000_000;
 const LOAD: i128 = 500_000;
 const MOST_ROWS: i128 = 256;
 const MOST_ENTRIES: usize = 64;
+
+// Bytes of a placard's line, and the file's version.
 const LINE: usize = 36;
 const VERSION: u8 = 1;
 
@@ -163,7 +170,9 @@ pub struct Journal {
     pub entries: Vec<Entry>,
 }
 
-/// G, M and n of "The record".
+// ---- The record ----
+
+/// G, M and n.
 #[derive(Clone, Copy, Debug)]
 pub(crate) struct Sums {
     pub(crate) g: i128,
@@ -210,6 +219,8 @@ fn changed(before: Sums, change: &Change) -> Sums {
     }
 }
 
+// ---- Numbers of refusal: the ranges ----
+
 fn is_arm(arm: i64) -> bool {
     (-ARM..=ARM).contains(&i128::from(arm))
 }
@@ -255,6 +266,8 @@ fn steps_and_rows_hold(s: &Sheet) -> bool {
     let (rears, waters) = row_counts(s);
     rears * waters <= MOST_ROWS
 }
+
+// ---- The journal ----
 
 impl Journal {
     /// An empty journal.

@@ -244,101 +244,94 @@ fn weight_after_a_change() {
     assert_eq!(flagged(1, u64::MAX), 6);
 }
 
-/// A value that is good in its low four bytes only is still refused, and no
-/// argument of any size overflows.
+/// Picks a field of an entry.
+type Field<Entry, Value> = fn(&mut Entry) -> &mut Value;
+
+/// Far out, or good in the low four bytes only.
+const BIG: [u64; 6] = [
+    1 << 31,
+    1 << 32,
+    (1 << 32) + 1,
+    1 << 63,
+    i64::MAX as u64,
+    u64::MAX,
+];
+const BIG_SIGNED: [i64; 6] = [
+    1 << 31,
+    -(1 << 31),
+    1 << 32,
+    (1 << 32) + 1,
+    i64::MIN,
+    i64::MAX,
+];
+
 #[test]
-fn arguments_of_any_size() {
-    let big = [1 << 31, 1 << 32, (1 << 32) + 1, 1 << 63, u64::MAX];
-    for value in big {
-        let signed = value as i64;
-        for w in [
-            Weighing {
-                m: value,
-                ..WEIGHING
-            },
-            Weighing {
-                p: value,
-                ..WEIGHING
-            },
-            Weighing {
-                q: value,
-                ..WEIGHING
-            },
-        ] {
-            assert_eq!(weigh(w), 1);
+fn weighing_arguments_of_any_size() {
+    let fields: [(Field<Weighing, u64>, u64); 5] = [
+        (|w| &mut w.m, 1),
+        (|w| &mut w.p, 1),
+        (|w| &mut w.q, 1),
+        (|w| &mut w.b, 2),
+        (|w| &mut w.n, 3),
+    ];
+    for (field, number) in fields {
+        for value in BIG {
+            let mut w = WEIGHING;
+            *field(&mut w) = value;
+            assert_eq!(weigh(w), number, "{w:?}");
         }
-        assert_eq!(
-            weigh(Weighing {
-                b: value,
-                ..WEIGHING
-            }),
-            2
-        );
-        assert_eq!(
-            weigh(Weighing {
-                n: value,
-                ..WEIGHING
-            }),
-            3
-        );
-        assert_eq!(
-            install(Sheet {
-                dry: value,
-                ..SHEET
-            }),
-            4
-        );
-        assert_eq!(
-            install(Sheet {
-                nlp: value,
-                ..SHEET
-            }),
-            4
-        );
-        assert_eq!(
-            install(Sheet {
-                front_step: value,
-                ..SHEET
-            }),
-            5
-        );
-        assert_eq!(
-            change(Change {
-                flag: value,
-                ..CHANGE
-            }),
-            6
-        );
-        if signed.unsigned_abs() > 2_000_000 {
-            assert_eq!(
-                weigh(Weighing {
-                    a: signed,
-                    ..WEIGHING
-                }),
-                2
-            );
-            assert_eq!(
-                install(Sheet {
-                    fwd: signed,
-                    ..SHEET
-                }),
-                2
-            );
-            assert_eq!(
-                change(Change {
-                    arm: signed,
-                    ..CHANGE
-                }),
-                2
-            );
-            assert_eq!(
-                change(Change {
-                    c: signed,
-                    ..CHANGE
-                }),
-                6
-            );
+    }
+    for a in BIG_SIGNED {
+        assert_eq!(weigh(Weighing { a, ..WEIGHING }), 2);
+    }
+}
+
+#[test]
+fn sheet_arguments_of_any_size() {
+    let weights: [(Field<Sheet, u64>, u64); 10] = [
+        (|s| &mut s.dry, 4),
+        (|s| &mut s.wet, 4),
+        (|s| &mut s.nlp, 4),
+        (|s| &mut s.front_least, 4),
+        (|s| &mut s.front_most, 4),
+        (|s| &mut s.rear_most, 4),
+        (|s| &mut s.capacity, 4),
+        (|s| &mut s.front_step, 5),
+        (|s| &mut s.rear_step, 5),
+        (|s| &mut s.water_step, 5),
+    ];
+    for (field, number) in weights {
+        for value in BIG {
+            let mut s = SHEET;
+            *field(&mut s) = value;
+            assert_eq!(install(s), number, "{s:?}");
         }
+    }
+    let arms: [Field<Sheet, i64>; 5] = [
+        |s| &mut s.fwd,
+        |s| &mut s.aft,
+        |s| &mut s.front_arm,
+        |s| &mut s.rear_arm,
+        |s| &mut s.water_arm,
+    ];
+    for field in arms {
+        for value in BIG_SIGNED {
+            let mut s = SHEET;
+            *field(&mut s) = value;
+            assert_eq!(install(s), 2, "{s:?}");
+        }
+    }
+}
+
+#[test]
+fn change_arguments_of_any_size() {
+    for value in BIG_SIGNED {
+        assert_eq!(change(Change { c: value, ..CHANGE }), 6);
+        let arm = value;
+        assert_eq!(change(Change { arm, ..CHANGE }), 2);
+    }
+    for flag in BIG {
+        assert_eq!(change(Change { flag, ..CHANGE }), 6);
     }
 }
 

@@ -14,7 +14,7 @@ size-requires c κs = search needs
 returns : tie.Need-returns
 returns c =
     let b = c .before .before in
-    from-nought (b .args .x) (c .size .result) (c .size .ensures ∙ toZ-ofZ (b .fits .x))
+    from-nought 4 (b .args .x) (c .size .result) (c .size .ensures ∙ toZ-ofZ (b .fits .x))
 
 under-requires : tie.Need-under-requires
 under-requires c κs = omega (arith, zs, back (c .before .fits .x))
@@ -26,7 +26,7 @@ returns-2 : tie.Need-returns-2
 returns-2 c =
     let b = c .before .before .before in
     let u = c .before .under in
-    below-nought (b .args .x) (u .result) (sym (toZ-ofZ (b .fits .x)) ∙ u .ensures .0) (omega arith)
+    below-nought 4 (b .args .x) (u .result) _ (sym (toZ-ofZ (b .fits .x)) ∙ u .ensures .0) (omega arith)
 
 returns-3 : tie.Need-returns-3
 returns-3 c =

@@ -72,6 +72,44 @@ impl Glider {
         }
     }
 
+    /// Meets the safe aft limit as closely as whole moments can: up to 19 g more
+    /// of glider bring the limit to a whole moment or a twentieth beside one,
+    /// and the moment stands on it, a twentieth inside or a twentieth behind.
+    pub(super) fn meet_aft_closely(&mut self, random: &mut Random) {
+        let loads = some_loads(random, &self.sheet);
+        let safe = 19 * self.sheet.aft + self.sheet.fwd;
+        let (twentieths, inside) = random.pick(&[(0, 0), (1, 0), (19, -1)]);
+        for _ in 0..20 {
+            let (total, _) = self.loaded(loads);
+            if (safe * total).rem_euclid(20) == twentieths {
+                break;
+            }
+            self.g += 1;
+        }
+        self.meet_aft(loads, inside);
+    }
+
+    /// Puts the centre of gravity halfway between two units, or a unit of moment
+    /// beside that.
+    pub(super) fn halve_centre(&mut self, random: &mut Random) {
+        let whole = self.moment - self.moment.rem_euclid(self.g);
+        self.moment = whole + self.g / 2 + random.pick(&[0, 0, 1, -1]);
+    }
+
+    /// Lets the greatest front load fall to 0 or just below it: the safe aft
+    /// limit is met with an empty seat, and DRY leaves hardly anything.
+    pub(super) fn leave_no_load(&mut self, random: &mut Random) {
+        let s = &mut self.sheet;
+        let step = s.front_step as i64;
+        let half = s.rear_most as i64 / 2;
+        let room = random.between(-step, 2 * step) + random.pick(&[0, half]);
+        s.front_least = 0;
+        s.dry = (self.g + room).clamp(1, WEIGHT) as u64;
+        s.wet = s.wet.max(s.dry);
+        let inside = random.between(0, 1_000_000_000);
+        self.meet_aft(Loads { p: 0, r: 0, v: 0 }, inside);
+    }
+
     /// Moves the datum: every arm grows by the same amount, and the placard
     /// stays as it is.
     pub(super) fn move_datum(&mut self, by: i64) {
@@ -310,7 +348,7 @@ pub(super) fn toy(random: &mut Random) -> Glider {
     let fwd = random.between(-40, 40);
     let aft = fwd + random.between(1, 40);
     let dry = g + random.below(120);
-    let least = random.below(20);
+    let least = random.below(20) * random.below(2);
     let mut sheet = Sheet {
         fwd,
         aft,

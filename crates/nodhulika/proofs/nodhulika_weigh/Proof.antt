@@ -1,0 +1,21 @@
+-- `nodhulika::nodhulika_weigh` meets its contract: it is what `lent::add` says of the weighing. Assumes nothing.
+use borrow.Author.Needs.{needs}
+use mir.Facts.{toZ-ofZ}
+use Rattle.paper.specs.Journal.{callOf}
+use Rattle.nodhulika.proofs.nodhulika_weigh.Statement.{statement}
+use Rattle.nodhulika.proofs.nodhulika_weigh.Tie as tie
+
+add-requires : tie.Need-add-requires
+add-requires c κs = search needs
+
+same-length : tie.Need-same-length
+same-length c = search needs
+
+returns : tie.Need-returns
+unfolding callOf
+returns c =
+    let b = c .before .before .before .before .before in
+    rw (toZ-ofZ (b .fits .a)) at (c .before .before .add .ensures)
+
+pub nodhulika-weigh-spec : {M : Type 1} → statement M
+nodhulika-weigh-spec = tie.close (tie.spec add-requires same-length returns)
