@@ -23,7 +23,7 @@ use Rattle.line.proofs.Legible.{Fits, RowFits, legible}
 use Rattle.record.specs.declared.Record.{Record}
 use Rattle.record.proofs.Replays.{held-accepted}
 use Rattle.plate.specs.Numbered.{rearAt, waterAt}
-use Rattle.plate.proofs.Sheets.{sheet-accepted}
+use Rattle.sheet.proofs.Lists.{sheet-accepted}
 use Rattle.plate.proofs.Rows.{rear-most, water-most, line-at}
 use Rattle.plate.proofs.placard.Reads as placard
 use Rattle.claim.specs.Demand3.{Trace, WhereStand, follows, demand-3}

@@ -5,16 +5,16 @@ use mathlib.Core.Option.{none, some, bind}
 use Prim.Native.Nat.{ℕ, _+_, _-_, _≤_, _<_}
 use native.Mathlib.Numerals.{add-one}
 use native.Mathlib.Omega.{arith}
-use lib.ListN.{length, getD, take, drop, replicate, length-drop, drop-of-length-le}
+use lib.ListN.{length, getD, drop, replicate, length-drop, drop-of-length-le}
 use lib.Seq.{drop-cons}
 use borrow.Author.Tests.{le-leb, lt-leb}
 use Rattle.paper.specs.declared.Entry.{Entry}
-use Rattle.paper.specs.File.{Field, fieldValue, layoutOf, takeEntry}
+use Rattle.paper.specs.File.{Field, fieldValue, layoutOf, theFields, takeEntry}
 use Rattle.format.specs.Fields.{widths, total, numbersFrom, valuesBy, take-fields, numbers-length, widths-length}
 use Rattle.layout.specs.declared.Layout.{Layout}
 use Rattle.layout.specs.Table.{padded, entryWith}
 use Rattle.entries.specs.declared.Walk.the-variants.{Got, Nothing}
-use Rattle.entries.specs.Walking.{walkAt}
+use Rattle.entries.specs.Walking.{wordsAt, walkAt}
 use Rattle.entries.proofs.Rows.{Known}
 
 -- only as many numbers count as there are fields
@@ -57,7 +57,9 @@ module _ (s : List ℕ) (at : ℕ) (h : at < length s) where
         let values = values-front fs ns (replicate (15 - length ns) 0) (numbers-length (widths fs) behind ∙ widths-length fs) in
         rw (here, e, take-fields fs behind, le-leb n (length behind) (omega (arith, left-over)), place, values)
 
-  -- as the code has it: the row of the kind, and the words that are read by it
-  pub got : (r : Layout) → Known r (getD s at 0) → (ns : List ℕ) (x : Entry) → ns ≡ padded (numbersFrom (take (r .count) (r .widths)) behind) → x ≡ entryWith (getD s at 0) ns → r .length ≤ length s - (at + 1) → Got x (at + 1 + r .length) ≡ walkAt s at
+  -- as the code has it: the words of the kind, and the length of its row
+  pub got : (r : Layout) → Known r (getD s at 0) → (ns : List ℕ) (x : Entry) → ns ≡ wordsAt (getD s at 0) behind → x ≡ entryWith (getD s at 0) ns → r .length ≤ length s - (at + 1) → Got x (at + 1 + r .length) ≡ walkAt s at
+  unfolding wordsAt
   got r k ns x n e m =
-      rw (e, n, k .row .taken, k .row .size) (entry-here (k .fields) (k .is) (omega (arith, k .row .size)))
+      let words : ns ≡ padded (numbersFrom (widths (k .fields)) behind) = n ∙ ap (λ o. padded (numbersFrom (widths (theFields o)) behind)) (k .is) in
+      rw (e, words, k .row .size) (entry-here (k .fields) (k .is) (omega (arith, k .row .size)))

@@ -1,4 +1,4 @@
--- One field more of a row, read and written: each list of fields grows at its end. Assumes nothing.
+-- One field more of a row, written: each list of fields grows at its end. Assumes nothing.
 use mathlib.Core.Path.{_≡_, refl, sym, ap, _∙_}
 use mathlib.Core.List.{List, [], _∷_, _++_, append-assoc}
 use Prim.Native.Nat.{ℕ, zero, suc, _+_, _-_, _≤_, _<_}
@@ -35,25 +35,6 @@ taken-more ws i h = rw (add-one i) (take-suc ws i 0 h)
 
 pub total-taken : (ws : List ℕ) (i : ℕ) → i < length ws → total (take (i + 1) ws) ≡ total (take i ws) + getD ws i 0
 total-taken ws i h = rw (taken-more ws i h) (total-more (take i ws) (getD ws i 0))
-
--- ---- reading
-
-padded-more : (ns : List ℕ) (x : ℕ) → length ns < 15 → set (padded ns) (length ns) x ≡ padded (ns ++ x ∷ [])
-padded-more ns x h =
-    let e : 15 - length ns ≡ suc (15 - (length ns + 1)) = omega arith in
-    rw (e, length-more ns x, append-assoc ns (x ∷ []) (replicate (15 - (length ns + 1)) 0))
-    (set-at ns 0 (replicate (15 - (length ns + 1)) 0) x (length ns) refl)
-
--- the first i numbers from `at` on
-abbrev pub readTo : List ℕ → ℕ → List ℕ → ℕ → List ℕ
-readTo s at ws i = padded (numbersFrom (take i ws) (drop at s))
-
-pub read-more : (s : List ℕ) (at : ℕ) (ws : List ℕ) (i : ℕ) (ns : List ℕ) (from x : ℕ) → length ws ≡ 15 → i < 15 → from ≡ at + total (take i ws) → ns ≡ readTo s at ws i → x ≡ numberOf (take (getD ws i 0) (drop from s)) → set ns i x ≡ readTo s at ws (i + 1)
-read-more s at ws i ns from x e h f g k =
-    let ms = numbersFrom (take i ws) (drop at s) in
-    let n : length ms ≡ i = numbers-length (take i ws) (drop at s) ∙ length-take-le i ws (omega arith) in
-    let grown : numbersFrom (take (i + 1) ws) (drop at s) ≡ ms ++ x ∷ [] = rw (taken-more ws i (omega arith), numbers-more (take i ws) (drop at s) (getD ws i 0), drop-drop (total (take i ws)) at s, k, f) in
-    rw (g, grown) (ap (λ (j : ℕ). set (padded ms) j x) (sym n) ∙ padded-more ms x (omega arith))
 
 -- ---- writing
 

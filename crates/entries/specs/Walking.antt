@@ -1,12 +1,19 @@
--- What reading an entry at a place of some bytes finds.
+-- The words of an entry's fields as they stand in some bytes, and what reading an entry at a place finds.
 use mathlib.Core.List.{List}
 use mathlib.Core.Option.{Option, none, some}
 use Prim.Native.Nat.{ℕ, _-_}
 use lib.ListN.{length, drop}
 use Rattle.paper.specs.declared.Entry.{Entry}
 use Rattle.paper.specs.File.{takeEntry}
+use Rattle.format.specs.Fields.{widths, numbersFrom}
+use Rattle.format.specs.Rows.{fieldsAt}
+use Rattle.layout.specs.Table.{padded}
 use Rattle.entries.specs.declared.Walk.{Walk}
 use Rattle.entries.specs.declared.Walk.the-variants.{Got, Nothing}
+
+-- the words of a kind's fields that some bytes begin with
+unfoldable pub wordsAt : ℕ → List ℕ → List ℕ
+wordsAt k xs = padded (numbersFrom (widths (fieldsAt k)) xs)
 
 -- an entry with the place where the bytes behind it begin, of n bytes in all
 abbrev pub walkOf : ℕ → Option (Entry × List ℕ) → Walk

@@ -2,14 +2,17 @@
 use layout::FIELDS;
 use layout::Layout;
 use paper::Entry;
+use words::number_at;
 ghost use mathlib.Core.Path.{_≡_};
-ghost use Prim.Native.Nat.{ℕ, _+_, _≤_};
-ghost use lib.ListN.{length, getD, take, drop};
+ghost use mathlib.Core.Bool.{false};
+ghost use Prim.Native.Nat.{_+_, _≤_};
+ghost use lib.ListN.{length, take, drop};
 ghost use Rattle.laws.specs.Written.{written};
-ghost use Rattle.paper.specs.File.{entryBytes};
-ghost use Rattle.format.specs.Fields.{total, numbersFrom, numbersBytes};
-ghost use Rattle.layout.specs.Table.{padded};
-ghost use Rattle.entries.specs.Walking.{walkAt};
+ghost use Rattle.paper.specs.File.{layoutOf, entryBytes};
+ghost use Rattle.paper.specs.Refusals.{isNone};
+ghost use Rattle.format.specs.Fields.{widths, total, numbersBytes};
+ghost use Rattle.format.specs.Rows.{fieldsAt};
+ghost use Rattle.entries.specs.Walking.{wordsAt, walkAt};
 
 // What reading an entry at a place finds: it and the place behind it, or nothing that is one.
 pub enum Walk {
@@ -56,21 +59,109 @@ pub fn length_of(e: Entry) -> usize
     row.length + 1
 }
 
-// The words of a row, each read at its width.
-fn words_at(s: &[u8], at: usize, row: Layout) -> [u32; FIELDS]
-    requires { ⌜ (row .count ≤ 15) × (at + total (take (row .count) (row .widths)) ≤ length (now s)) × ((i : ℕ) → getD (row .widths) i 0 ≤ 4) ⌝ }
-    ensures { λ r. ⌜ r ≡ padded (numbersFrom (take (row .count) (row .widths)) (drop at (now (s .entry)))) ⌝ }
+// The words of a weighing: m; p, q, a, b, n. Each place is behind the one before it, as the table has them.
+fn weighing_at(s: &[u8], at: usize) -> [u32; FIELDS]
+    requires { ⌜ at + 21 ≤ length (now s) ⌝ }
+    ensures { λ r. ⌜ r ≡ wordsAt 1 (drop at (now (s .entry))) ⌝ }
 {
-    let mut n = [0u32; FIELDS];
-    let mut from = at;
-    let mut i = 0;
-    while i < row.count {
-        let width = row.widths[i];
-        n[i] = words::number_at(s, from, width);
-        from += width;
-        i += 1;
+    let p = at + 1;
+    let q = p + 4;
+    let a = q + 4;
+    let b = a + 4;
+    let n = b + 4;
+    [
+        number_at(s, at, 1),
+        number_at(s, p, 4),
+        number_at(s, q, 4),
+        number_at(s, a, 4),
+        number_at(s, b, 4),
+        number_at(s, n, 4),
+        0,
+        0,
+        0,
+        0,
+        0,
+        0,
+        0,
+        0,
+        0,
+    ]
+}
+
+// The words of a sheet: FWD, AFT, DRY, WET, NLP; front arm, least, greatest, step; rear and water arm, greatest, step.
+fn sheet_at(s: &[u8], at: usize) -> [u32; FIELDS]
+    requires { ⌜ at + 60 ≤ length (now s) ⌝ }
+    ensures { λ r. ⌜ r ≡ wordsAt 2 (drop at (now (s .entry))) ⌝ }
+{
+    let aft = at + 4;
+    let dry = aft + 4;
+    let wet = dry + 4;
+    let nlp = wet + 4;
+    let front = nlp + 4;
+    let least = front + 4;
+    let most = least + 4;
+    let step = most + 4;
+    let rear = step + 4;
+    let rear_most = rear + 4;
+    let rear_step = rear_most + 4;
+    let water = rear_step + 4;
+    let water_most = water + 4;
+    let water_step = water_most + 4;
+    [
+        number_at(s, at, 4),
+        number_at(s, aft, 4),
+        number_at(s, dry, 4),
+        number_at(s, wet, 4),
+        number_at(s, nlp, 4),
+        number_at(s, front, 4),
+        number_at(s, least, 4),
+        number_at(s, most, 4),
+        number_at(s, step, 4),
+        number_at(s, rear, 4),
+        number_at(s, rear_most, 4),
+        number_at(s, rear_step, 4),
+        number_at(s, water, 4),
+        number_at(s, water_most, 4),
+        number_at(s, water_step, 4),
+    ]
+}
+
+// The words of a change: c, arm; flag.
+fn change_at(s: &[u8], at: usize) -> [u32; FIELDS]
+    requires { ⌜ at + 9 ≤ length (now s) ⌝ }
+    ensures { λ r. ⌜ r ≡ wordsAt 3 (drop at (now (s .entry))) ⌝ }
+{
+    let arm = at + 4;
+    let flag = arm + 4;
+    [
+        number_at(s, at, 4),
+        number_at(s, arm, 4),
+        number_at(s, flag, 1),
+        0,
+        0,
+        0,
+        0,
+        0,
+        0,
+        0,
+        0,
+        0,
+        0,
+        0,
+        0,
+    ]
+}
+
+// The words of an entry of a kind of the table.
+fn words_at(s: &[u8], at: usize, kind: u8) -> [u32; FIELDS]
+    requires { ⌜ (isNone (layoutOf kind) ≡ false) × (at + total (widths (fieldsAt kind)) ≤ length (now s)) ⌝ }
+    ensures { λ r. ⌜ r ≡ wordsAt kind (drop at (now (s .entry))) ⌝ }
+{
+    match kind {
+        1 => weighing_at(s, at),
+        2 => sheet_at(s, at),
+        _ => change_at(s, at),
     }
-    n
 }
 
 // The entry at a place.
@@ -90,6 +181,6 @@ pub fn next_entry(s: &[u8], at: usize) -> Walk
     if s.len() - from < length {
         return Walk::Nothing;
     }
-    let n = words_at(s, from, row);
+    let n = words_at(s, from, kind);
     Walk::Got(layout::entry_of(kind, n), from + length)
 }

@@ -5,6 +5,7 @@ use paper::Change;
 use paper::Entry;
 use paper::Sheet;
 use paper::Weighing;
+ghost use mathlib.Core.Path.{_≡_};
 ghost use mathlib.Core.Option.{some, Option·map};
 ghost use Prim.Native.Nat.{ℕ, _+_};
 ghost use Rattle.paper.specs.Record as paper;
@@ -72,5 +73,31 @@ pub fn judge(count: usize, standing: Standing, e: Entry) -> Judged
         Entry::Weighing(w) => judge_weighing(w),
         Entry::Sheet(s) => judge_sheet(standing, s),
         Entry::Change(x) => judge_change(standing, x),
+    }
+}
+
+// The number of a change, behind 9.
+fn change_number(standing: Standing, x: Change) -> u64
+    requires { ⌜ Sound 4096 standing ⌝ }
+    ensures { λ n. ⌜ n ≡ firstNumber (changeFaults (plainly standing) x) ⌝ }
+{
+    let Standing::Weighed(b) = standing else {
+        return 7;
+    };
+    change::number(b, x)
+}
+
+// The number of an entry, where `count` entries stand.
+pub fn number(count: usize, standing: Standing, e: Entry) -> u64
+    requires { ⌜ Sound count standing ⌝ }
+    ensures { λ n. ⌜ n ≡ numberAt count (plainly standing) e ⌝ }
+{
+    if CAPACITY <= count {
+        return 9;
+    }
+    match e {
+        Entry::Weighing(w) => weighing::number(w),
+        Entry::Sheet(s) => sheet::number(s),
+        Entry::Change(x) => change_number(standing, x),
     }
 }

@@ -1,6 +1,5 @@
 // The calls on a record that is lent as its file at the front of a buffer. The file is surveyed in place and changed in place;
 // what stands behind it in the buffer is free and stays. Each call answers by the paper's number, 0 where it is accepted.
-use judge::Judged;
 use paper::CentreOfGravity;
 use paper::Entry;
 use paper::Placard;
@@ -32,7 +31,7 @@ fn front(buffer: &[u8]) -> &[u8]
 
 // What the buffer holds.
 fn held(buffer: &[u8]) -> Stored
-    ensures { λ r. ⌜ Finds (heldIn (now (buffer .entry))) r ⌝ }
+    ensures { λ r. ⌜ Finds (fileIn (now (buffer .entry))) (heldIn (now (buffer .entry))) r ⌝ }
 {
     stored::survey(front(buffer))
 }
@@ -79,10 +78,11 @@ pub fn add(buffer: &mut [u8], e: Entry) -> u64
         return 12;
     };
     let standing = found.standing;
-    match judge::judge(found.count, standing, e) {
-        Judged::Refused(number) => number,
-        Judged::Accepted(_) => append(buffer, found.end, found.count, e),
+    let number = judge::number(found.count, standing, e);
+    if number != 0 {
+        return number;
     }
+    append(buffer, found.end, found.count, e)
 }
 
 // Taking back: the header says one entry less, and its bytes are free.
@@ -142,6 +142,6 @@ pub fn placard(buffer: &[u8], out: &mut [u8]) -> Placard
         };
     };
     let standing = found.standing;
-    let sheet = found.sheet;
+    let sheet = stored::sheet_at(front(buffer), found.sheet);
     plate::answer(standing, sheet, out)
 }

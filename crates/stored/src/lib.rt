@@ -2,6 +2,7 @@
 use entries::Walk;
 use judge::Judged;
 use judge::Standing;
+use paper::Entry;
 use sheet::InForce;
 ghost use mathlib.Core.Path.{_≡_};
 ghost use Prim.Native.Nat.{_≤_};
@@ -10,7 +11,8 @@ ghost use Rattle.laws.specs.Written.{written};
 ghost use Rattle.paper.specs.File.{takeEntries};
 ghost use Rattle.paper.specs.Refusals.{onlyAccepted, fileOf};
 ghost use Rattle.stored.specs.Header.{headerOf, headed};
-ghost use Rattle.stored.specs.Found.{Finds};
+ghost use Rattle.sheet.specs.InForce.{found};
+ghost use Rattle.stored.specs.Found.{sheetPlace, sheetAt, Finds};
 
 // The version of the file.
 const VERSION: u8 = 1;
@@ -18,12 +20,12 @@ const VERSION: u8 = 1;
 // The length, the version and the count of entries come first.
 pub const HEADER: usize = 6;
 
-// What stands in the file of a record: how many entries, their balance, the sheet in force, the place of the last entry
-// (behind the header where there is none) and the place behind it.
+// What stands in the file of a record: how many entries, their balance, the place of the sheet in force (0 where there is
+// none), the place of the last entry (behind the header where there is none) and the place behind it.
 pub struct Contents {
     pub count: usize,
     pub standing: Standing,
-    pub sheet: InForce,
+    pub sheet: usize,
     pub last: usize,
     pub end: usize,
 }
@@ -55,12 +57,36 @@ fn is_headed(s: &[u8]) -> bool
     words::number_at(s, 0, 4) as usize == behind && s[4] == VERSION
 }
 
+// The place of the sheet in force behind one entry more, which stands at `at`.
+fn sheet_place(last: usize, at: usize, e: Entry) -> usize
+    ensures { λ r. ⌜ r ≡ sheetPlace last at e ⌝ }
+{
+    match e {
+        Entry::Weighing(_) => last,
+        Entry::Sheet(_) => at,
+        Entry::Change(_) => last,
+    }
+}
+
+// The sheet at a place of some bytes, none at the place 0.
+pub fn sheet_at(s: &[u8], at: usize) -> InForce
+    ensures { λ r. ⌜ found r ≡ sheetAt (now (s .entry)) at ⌝ }
+{
+    if at == 0 {
+        return InForce::Nothing;
+    }
+    let Walk::Got(e, _) = reader::entry_at(s, at) else {
+        return InForce::Nothing;
+    };
+    sheet::later(InForce::Nothing, e)
+}
+
 // What stands behind the header, judged entry by entry: just as many entries as the count says, and no byte over.
 fn survey_entries(s: &[u8], count: usize) -> Stored
-    ensures { λ r. ⌜ Finds (onlyAccepted (takeEntries count (drop 6 (now (s .entry))))) r ⌝ }
+    ensures { λ r. ⌜ Finds (now (s .entry)) (onlyAccepted (takeEntries count (drop 6 (now (s .entry))))) r ⌝ }
 {
     let mut standing = Standing::Unweighed;
-    let mut sheet = InForce::Nothing;
+    let mut sheet = 0;
     let mut last = HEADER;
     let mut at = HEADER;
     let mut i = 0;
@@ -72,7 +98,7 @@ fn survey_entries(s: &[u8], count: usize) -> Stored
             return Stored::Nothing;
         };
         standing = next;
-        sheet = sheet::later(sheet, entry);
+        sheet = sheet_place(sheet, at, entry);
         last = at;
         at = place;
         i += 1;
@@ -91,7 +117,7 @@ fn survey_entries(s: &[u8], count: usize) -> Stored
 
 // What stands in some bytes, where they are the file of a record.
 pub fn survey(s: &[u8]) -> Stored
-    ensures { λ r. ⌜ Finds (fileOf (now (s .entry))) r ⌝ }
+    ensures { λ r. ⌜ Finds (now (s .entry)) (fileOf (now (s .entry))) r ⌝ }
 {
     if !is_headed(s) {
         return Stored::Nothing;

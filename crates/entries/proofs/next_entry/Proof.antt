@@ -3,9 +3,9 @@ use mathlib.Core.Path.{ap, _∙_, sym}
 use native.Mathlib.Omega.{arith}
 use borrow.Author.Needs.{needs}
 use lib.ListN.{getD}
-use Rattle.paper.specs.File.{layoutOf}
+use Rattle.paper.specs.File.{layoutOf, theFields}
 use Rattle.paper.specs.Refusals.{isNone}
-use Rattle.format.specs.Fields.{total}
+use Rattle.format.specs.Fields.{widths, total}
 use Rattle.entries.proofs.Rows.{Known, known, no-kind, listed}
 use Rattle.entries.proofs.Places.{at-end, no-row-here, cut-off, got}
 use Rattle.entries.proofs.next_entry.Statement.{statement}
@@ -46,10 +46,11 @@ returns-3 c =
     cut-off (a .s .now) (a .at) (b .before .before .before .before .if1 .left) (k .fields) (k .is) (omega (arith, k .row .size))
 
 words-at-requires : tie.Need-words-at-requires
+unfolding isNone
 words-at-requires c κs =
-    let k = row (c .before) .row in
-    let t = ap total (k .taken) in
-    (k .few, omega (arith, t, k .size), k .narrow)
+    let k = row (c .before) in
+    let size = ap (λ o. total (widths (theFields o))) (k .is) in
+    (rw (k .is), omega (arith, size, k .row .size))
 
 entry-of-requires : tie.Need-entry-of-requires
 unfolding isNone

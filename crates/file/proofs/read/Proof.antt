@@ -48,7 +48,7 @@ module _ (c : tie.After-known-told) where
   abbrev bytesRead : List ℕ
   bytesRead = c .before .before .before .before .before .args .s .now
 
-  found : Finds (fileOf bytesRead) (File (c .before .found .given .0 .0))
+  found : Finds bytesRead (fileOf bytesRead) (File (c .before .found .given .0 .0))
   found = rw (c .before .found .given .1) at (c .before .before .before .survey .ensures)
 
   most : length (found .0) ≤ 64

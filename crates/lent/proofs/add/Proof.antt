@@ -1,4 +1,4 @@
--- `lent::add` meets its contract: the entry is judged against what stands, and an accepted one is put behind the file.
+-- `lent::add` meets its contract: the entry gets its number by what stands, and one without is put behind the file.
 -- Assumes nothing.
 use borrow.Author.Needs.{needs}
 use mathlib.Core.Path.{_≡_, sym, ap, _∙_}
@@ -6,13 +6,13 @@ use mathlib.Core.List.{List}
 use Prim.Native.Nat.{ℕ}
 use native.Mathlib.Omega.{arith}
 use lib.ListN.{take}
-use Rattle.paper.specs.Journal.{callOf}
+use Rattle.paper.specs.Journal.{callOf, callNumber}
 use Rattle.judge.proofs.Judging.{room-of}
 use Rattle.stored.specs.declared.Stored.the-variants.{File}
 use Rattle.stored.specs.Found.{Finds}
 use Rattle.stored.proofs.Parts.{file-size}
 use Rattle.stored.proofs.Walks.{sound-in, number-in}
-use Rattle.lent.specs.Lent.{heldIn, lentFile}
+use Rattle.lent.specs.Lent.{fileIn, heldIn, lentFile}
 use Rattle.lent.proofs.Fronts.{held-file, held-room}
 use Rattle.lent.proofs.Answers.{none-held, refused-held, accepted-held, number-of, list-of}
 use Rattle.lent.proofs.add.Statement.{statement}
@@ -40,41 +40,39 @@ module _ (c : tie.After-known-told) where
   abbrev buffer : List ℕ
   buffer = c .before .before .before .before .before .before .args .buffer .now
 
-  held : Finds (heldIn buffer) (File (c .before .found .given .0 .0))
+  held : Finds (fileIn buffer) (heldIn buffer) (File (c .before .found .given .0 .0))
   held = rw (c .before .found .given .1) at (c .before .before .before .held .ensures)
 
-judge-requires : tie.Need-judge-requires
-judge-requires c κs = sound-in (held c .0) _ (held c .2)
+number-requires : tie.Need-number-requires
+number-requires c κs = sound-in (fileIn (buffer c)) (held c .0) _ (held c .2)
 
-enum-known-number : tie.Need-enum-known-number
-enum-known-number c = search needs
-
-enum-told-2 : tie.Need-enum-told-2
-enum-told-2 c = search needs
-
-append-requires : tie.Need-append-requires
-append-requires c κs =
-    let j = c .before .before .before in
-    let k = j .before in
+-- the number is the call's
+number : (c : tie.After-number) → c .number .result ≡ callNumber (held (c .before) .0) (callOf (c .before .before .before .before .before .before .before .args .e))
+number c =
+    let k = c .before in
     let f = held k in
-    let says = rw (c .before .enum-told2 .given .1) at (j .judge .ensures) in (
-      omega (arith, f .2 .end),
-      omega (arith, f .2 .end, file-size (f .0), held-room (buffer k) (f .0) (f .1)),
-      room-of _ _ _ (says .0),
-    )
+    let e = k .before .before .before .before .before .before .args .e in
+    c .number .ensures ∙ number-in (fileIn (buffer k)) (f .0) _ (f .2) e ∙ sym (number-of (f .0) e)
 
 same-length-2 : tie.Need-same-length-2
 same-length-2 c = search needs
 
 returns-2 : tie.Need-returns-2
 returns-2 c =
-    let j = c .before .before .before in
-    let k = j .before in
-    let f = held k in
+    let n = c .before in
+    let k = n .before in
     let e = k .before .before .before .before .before .before .args .e in
-    let says = rw (c .before .number .given .1) at (j .judge .ensures) in
-    let number = says .0 ∙ number-in (f .0) _ (f .2) e ∙ sym (number-of (f .0) e) in
-    refused-held (callOf e) (buffer k) (f .0) (f .1) _ number (omega (arith, says))
+    refused-held (callOf e) (buffer k) (held k .0) (held k .1) _ (number n) (omega arith)
+
+append-requires : tie.Need-append-requires
+append-requires c κs =
+    let n = c .before .before in
+    let k = n .before in
+    let f = held k in (
+      omega (arith, f .2 .end),
+      omega (arith, f .2 .end, file-size (f .0), held-room (buffer k) (f .0) (f .1)),
+      room-of _ _ _ (sym (n .number .ensures) ∙ omega arith),
+    )
 
 same-length-3 : tie.Need-same-length-3
 same-length-3 c = search needs
@@ -82,13 +80,12 @@ same-length-3 c = search needs
 returns-3 : tie.Need-returns-3
 returns-3 c =
     let p = c .before .before in
-    let j = p .before .before .before .before in
-    let k = j .before in
+    let n = p .before .before .before in
+    let k = n .before in
     let f = held k in
     let es = f .0 in
     let e = k .before .before .before .before .before .before .args .e in
-    let says = rw (p .before .before .enum-told2 .given .1) at (j .judge .ensures) in
-    let none-is = number-of es e ∙ sym (number-in es _ (f .2) e) ∙ says .0 in
+    let none-is : callNumber es (callOf e) ≡ 0 = omega (arith, number n) in
     let end = ap (λ (n : ℕ). take n (buffer k)) (f .2 .end ∙ sym (file-size es)) ∙ held-file (buffer k) es (f .1) in
     p .append .ensures es (f .2 .count) end
     ∙ sym (accepted-held (callOf e) (buffer k) es (f .1) none-is ∙ ap (λ l. lentFile l (buffer k)) (list-of es e))
@@ -102,11 +99,9 @@ add-spec =
     enum-told
     same-length
     returns
-    judge-requires
-    enum-known-number
-    enum-told-2
-    append-requires
+    number-requires
     same-length-2
     returns-2
+    append-requires
     same-length-3
     returns-3)

@@ -9,7 +9,7 @@ use Rattle.judge.proofs.Judging.{grown}
 use Rattle.judge.proofs.Accepted.{at-most-64}
 use Rattle.stored.specs.declared.Stored.the-variants.{File}
 use Rattle.stored.specs.Found.{Finds}
-use Rattle.lent.specs.Lent.{heldIn}
+use Rattle.lent.specs.Lent.{fileIn, heldIn}
 use Rattle.lent.proofs.Fronts.{held-accepted}
 use Rattle.lent.proofs.Answers.{centre-twelve, centre-held}
 use Rattle.lent.proofs.centre.Statement.{statement}
@@ -32,7 +32,7 @@ module _ (c : tie.After-known-told) where
   abbrev buffer : List ℕ
   buffer = c .before .before .before .before .before .args .buffer .now
 
-  held : Finds (heldIn buffer) (File (c .before .found .given .0 .0))
+  held : Finds (fileIn buffer) (heldIn buffer) (File (c .before .found .given .0 .0))
   held = rw (c .before .found .given .1) at (c .before .before .before .held .ensures)
 
 centre-requires : tie.Need-centre-requires

@@ -6,12 +6,15 @@ use mathlib.Core.List.{List}
 use Prim.Native.Nat.{ℕ}
 use native.Mathlib.Omega.{arith}
 use lib.ListN.{length}
+use Rattle.paper.specs.Record.{sheetOf}
+use Rattle.sheet.specs.InForce.{found}
 use Rattle.sheet.proofs.Lists.{sheet-accepted}
 use Rattle.judge.proofs.Judging.{grown}
 use Rattle.judge.proofs.Accepted.{at-most-64}
 use Rattle.stored.specs.declared.Stored.the-variants.{File}
 use Rattle.stored.specs.Found.{Finds}
-use Rattle.lent.specs.Lent.{heldIn}
+use Rattle.stored.specs.Found.{sheetAt}
+use Rattle.lent.specs.Lent.{fileIn, heldIn}
 use Rattle.lent.proofs.Fronts.{held-accepted}
 use Rattle.lent.proofs.Answers.{placard-twelve, placard-held}
 use Rattle.lent.proofs.placard.Statement.{statement}
@@ -34,16 +37,29 @@ module _ (c : tie.After-known-told) where
   abbrev buffer : List ℕ
   buffer = c .before .before .before .before .before .before .args .buffer .now
 
-  held : Finds (heldIn buffer) (File (c .before .found .given .0 .0))
+  held : Finds (fileIn buffer) (heldIn buffer) (File (c .before .found .given .0 .0))
   held = rw (c .before .found .given .1) at (c .before .before .before .held .ensures)
+
+front-requires : tie.Need-front-requires
+front-requires c κs = search needs
+
+sheet-at-requires : tie.Need-sheet-at-requires
+sheet-at-requires c κs = search needs
+
+-- the sheet at its place is the sheet in force
+sheet : (c : tie.After-sheet-at) → found (c .sheet-at .result) ≡ sheetOf (held (c .before .before) .0)
+sheet c =
+    let k = c .before .before in
+    c .sheet-at .ensures ∙ ap (λ (s : List ℕ). sheetAt s (k .before .found .given .0 .0 .sheet)) (c .before .front .ensures) ∙ held k .2 .sheet
 
 answer-requires : tie.Need-answer-requires
 answer-requires c κs =
-    let k = c .before in
+    let a = c .before in
+    let k = a .before .before in
     let f = held k in
     let fine = held-accepted (buffer k) (f .0) (f .1) in (
       grown (length (f .0)) 4096 (k .before .found .given .0 .0 .standing) (omega (arith, at-most-64 (f .0) fine)) (f .2 .sound),
-      λ s e. sheet-accepted (f .0) s fine (sym (f .2 .sheet) ∙ e),
+      λ s e. sheet-accepted (f .0) s fine (sym (sheet a) ∙ e),
     )
 
 same-length : tie.Need-same-length
@@ -51,9 +67,10 @@ same-length c = search needs
 
 returns-2 : tie.Need-returns-2
 returns-2 c =
-    let a = c .before .before in
+    let p = c .before .before in
+    let a = p .before .before in
     let f = held (a .before .before) in
-    placard-held _ (f .0) _ _ _ (f .1) (a .answer .ensures (f .0) (f .2 .stands) (f .2 .sheet))
+    placard-held _ (f .0) _ _ _ (f .1) (p .answer .ensures (f .0) (f .2 .stands) (sheet a))
 
 pub placard-spec : {M : Type 1} → statement M
 placard-spec =
@@ -63,6 +80,8 @@ placard-spec =
     enum-known-found
     enum-told
     returns
+    front-requires
+    sheet-at-requires
     answer-requires
     same-length
     returns-2)

@@ -49,7 +49,7 @@ returns c =
 judge-requires : tie.Need-judge-requires Inv-loop μ-loop
 judge-requires c κs =
     let m = c .before .before .before .before .before in
-    sound-in (m .loop .inv .1 .entries) _ (m .loop .inv .1 .contents)
+    sound-in (m .before .before .args .s .now) (m .loop .inv .1 .entries) _ (m .loop .inv .1 .contents)
 
 -- the entry that was read
 module _ (c : tie.After-judge Inv-loop μ-loop) where
@@ -74,11 +74,11 @@ returns-2 c =
     let l = m .loop in
     let a = b .before .args in
     let says = rw (c .enum-told2 .given .1) at (j .judge .ensures) in
-    let number = rw (number-in (l .inv .1 .entries) _ (l .inv .1 .contents) (entry j)) at (says .1) in
+    let number = rw (number-in (a .s .now) (l .inv .1 .entries) _ (l .inv .1 .contents) (entry j)) at (says .1) in
     refused-entry (a .s .now) (a .count) (l .i) (l .at) (l .inv .1 .entries) (l .inv .1 .rest) (bytes b) (n .before .loop-test .taken) (entry j) _ (found j) number
 
-later-requires : tie.Need-later-requires Inv-loop μ-loop
-later-requires c κs = search needs
+sheet-place-requires : tie.Need-sheet-place-requires Inv-loop μ-loop
+sheet-place-requires c κs = search needs
 
 add-i : tie.Need-add-i Inv-loop μ-loop
 add-i c = search needs
@@ -97,7 +97,7 @@ loop-again c =
     let a = b .before .args in
     let says = rw (k .next .given .1) at (j .judge .ensures) in (
       omega arith,
-      gone-on (a .s .now) (a .count) _ (l .inv .1) (bytes b) (n .before .loop-test .taken) (entry j) _ (found j) (says .0) _ _ (says .1) (says .2) (c .later .ensures),
+      gone-on (a .s .now) (a .count) _ (l .inv .1) (bytes b) (n .before .loop-test .taken) (entry j) _ (found j) (says .0) _ _ (says .1) (says .2) (c .sheet-place .ensures),
     )
 
 returns-3 : tie.Need-returns-3 Inv-loop μ-loop
@@ -132,7 +132,7 @@ survey-entries-spec =
     enum-known-next
     enum-told-2
     returns-2
-    later-requires
+    sheet-place-requires
     add-i
     loop-less
     loop-again

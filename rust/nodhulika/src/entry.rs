@@ -1,0 +1,130 @@
+//! What the calls take and give. The names are those of the library's arguments.
+
+/// A weighing, which gives the empty total G and moment M.
+///
+/// | method | G | M |
+/// |---|---|---|
+/// | 1, wheel and tail | p | p·a + q·b |
+/// | 2, nose and wheel | p | (p − q)·b − p·a |
+/// | 3, two slings | p + q | q·b − G·a |
+/// | 4, wheel and tail held down by jury ballast | p − q | G·a − q·b |
+///
+/// G must be 1..2,000,000 g.
+#[derive(Clone, Copy, Debug, PartialEq, Eq, Hash)]
+pub struct Weighing {
+    /// The method, 1..4: one of the constants of this type.
+    pub m: u64,
+    /// The first reading, 0..2,000,000 g: in methods 1 and 2 the total, in 3 the
+    /// front one, in 4 the platform.
+    pub p: u64,
+    /// The second reading, 0..2,000,000 g: in methods 1 and 3 the rear one, in 2
+    /// the front one, in 4 the lift, which is the ballast less the rear reading.
+    /// In methods 1 and 2 it is at most p.
+    pub q: u64,
+    /// From the datum to the front point, −2,000,000..2,000,000 hundredths of a
+    /// millimetre; positive aft of the datum in methods 1 and 4, ahead of it in
+    /// 2 and 3.
+    pub a: i64,
+    /// From the front point to the rear one, 1..2,000,000 hundredths of a
+    /// millimetre.
+    pub b: u64,
+    /// The weight of the non-lifting parts, 0..G g.
+    pub n: u64,
+}
+
+impl Weighing {
+    /// Method 1: on wheel and tail.
+    pub const WHEEL_AND_TAIL: u64 = 1;
+    /// Method 2: on nose and wheel.
+    pub const NOSE_AND_WHEEL: u64 = 2;
+    /// Method 3: in two slings.
+    pub const TWO_SLINGS: u64 = 3;
+    /// Method 4: on wheel and tail, the tail held down by jury ballast.
+    pub const JURY_BALLAST: u64 = 4;
+}
+
+/// Where a load goes.
+#[derive(Clone, Copy, Debug, PartialEq, Eq, Hash)]
+pub struct Station {
+    /// The arm of the load, in hundredths of a millimetre, positive aft.
+    pub arm: i64,
+    /// The greatest load, in grams: at most 500,000 at a seat, and for water the
+    /// capacity of the tanks, at most 2,000,000.
+    pub most: u64,
+    /// The step of the load, in grams: 1..500,000 at a seat, 1..2,000,000 for
+    /// water.
+    pub step: u64,
+}
+
+/// A type's data sheet.
+///
+/// The placard has a row for each multiple of the rear step up to the greatest
+/// rear load and each multiple of the water step up to the capacity, from 0: at
+/// most 256 rows.
+#[derive(Clone, Copy, Debug, PartialEq, Eq, Hash)]
+pub struct Sheet {
+    /// The forward limit of the centre of gravity in flight, as an arm.
+    pub fwd: i64,
+    /// The aft limit, as an arm, more than `fwd`. The placard keeps 5 % of the
+    /// range inside it.
+    pub aft: i64,
+    /// The greatest weight without water, 1..2,000,000 g.
+    pub dry: u64,
+    /// The greatest weight with water, `dry`..2,000,000 g.
+    pub wet: u64,
+    /// The greatest non-lifting weight, 0..2,000,000 g; 0 is no limit.
+    pub nlp: u64,
+    /// The front seat.
+    pub front: Station,
+    /// The least front load, in grams, at most the greatest.
+    pub front_least: u64,
+    /// The rear seat; in a single-seater its greatest load is 0.
+    pub rear: Station,
+    /// The wing water.
+    pub water: Station,
+}
+
+/// A change of equipment.
+///
+/// It adds c to the total, c times arm to the moment and, for a non-lifting
+/// part, c to the non-lifting weight.
+#[derive(Clone, Copy, Debug, PartialEq, Eq, Hash)]
+pub struct Change {
+    /// The weight, −2,000,000..2,000,000 g and not 0; positive where it is
+    /// fitted, negative where it is taken out.
+    pub c: i64,
+    /// Its arm, in hundredths of a millimetre, positive aft.
+    pub arm: i64,
+    /// 1 for a non-lifting part, else 0: one of the constants of this type.
+    pub flag: u64,
+}
+
+impl Change {
+    /// The flag of a part that lifts.
+    pub const LIFTING: u64 = 0;
+    /// The flag of a non-lifting part.
+    pub const NON_LIFTING: u64 = 1;
+}
+
+/// A glider's empty total, moment and centre of gravity.
+#[derive(Clone, Copy, Debug, PartialEq, Eq, Hash)]
+pub struct CentreOfGravity {
+    /// The total, 1..2,000,000 g.
+    pub total: u64,
+    /// The moment, in grams times hundredths of a millimetre.
+    pub moment: i64,
+    /// The centre of gravity as an arm: moment by total to the nearest hundredth
+    /// of a millimetre, halves towards the tail.
+    pub centre: i64,
+}
+
+/// What a placard comes to.
+#[derive(Clone, Copy, Debug, PartialEq, Eq, Hash)]
+pub struct Counts {
+    /// The bytes written, [`LINE`](crate::LINE) for each row.
+    pub bytes: usize,
+    /// The rows, 1..256.
+    pub rows: usize,
+    /// The rows for which no front load keeps every limit.
+    pub blank: usize,
+}

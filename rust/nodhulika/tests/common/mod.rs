@@ -1,0 +1,89 @@
+//! The paper's cases that several tests begin with.
+
+// Each test file is a program of its own and uses a part of these.
+#![allow(dead_code)]
+
+use nodhulika::{Change, Record, Sheet, Station, Weighing};
+
+/// Bytes of the header and of each kind of entry.
+pub const HEADER: usize = 6;
+pub const WEIGHING: usize = 22;
+pub const SHEET: usize = 61;
+pub const CHANGE: usize = 10;
+
+/// What stands in a buffer where nothing was written.
+pub const FREE: u8 = 0x5a;
+
+/// The weighing of case G.
+pub const G_WEIGHING: Weighing = Weighing {
+    m: Weighing::WHEEL_AND_TAIL,
+    p: 288_000,
+    q: 0,
+    a: 63_334,
+    b: 500_000,
+    n: 140_000,
+};
+
+pub const fn station(arm: i64, most: u64, step: u64) -> Station {
+    Station { arm, most, step }
+}
+
+/// The data sheet of case G.
+pub const G_SHEET: Sheet = Sheet {
+    fwd: 25_000,
+    aft: 42_500,
+    dry: 380_000,
+    wet: 450_000,
+    nlp: 240_000,
+    front: station(-47_500, 110_000, 1_000),
+    front_least: 55_000,
+    rear: station(0, 0, 1),
+    water: station(30_000, 100_000, 50_000),
+};
+
+/// The placard of case G.
+pub const G_PLACARD: &str = "\
+0000.000 0000.000 0071.000 0092.000
+0000.000 0050.000 0071.000 0092.000
+0000.000 0100.000 -------- --------
+";
+
+/// The change of case H.
+pub const H_CHANGE: Change = Change {
+    c: 4_500,
+    arm: -100_000,
+    flag: Change::NON_LIFTING,
+};
+
+/// The record of a weighing and a data sheet.
+pub fn record_of(weighing: &Weighing, sheet: &Sheet) -> Record {
+    let mut record = Record::new();
+    assert_eq!(record.weigh(weighing), Ok(()));
+    assert_eq!(record.install(sheet), Ok(()));
+    record
+}
+
+/// The record of case G.
+pub fn case_g() -> Record {
+    record_of(&G_WEIGHING, &G_SHEET)
+}
+
+/// A buffer of `length` bytes with the record at its front and free bytes behind.
+pub fn lent(record: &Record, length: usize) -> Vec<u8> {
+    let mut buffer = vec![FREE; length];
+    assert_eq!(
+        nodhulika::lent::read(&mut buffer, record.as_bytes()),
+        Ok(())
+    );
+    buffer
+}
+
+/// A record of 64 entries: a weighing, and the same sheet 63 times.
+pub fn full() -> Record {
+    let mut record = Record::new();
+    assert_eq!(record.weigh(&G_WEIGHING), Ok(()));
+    for _ in 1..64 {
+        assert_eq!(record.install(&G_SHEET), Ok(()));
+    }
+    record
+}

@@ -1,0 +1,58 @@
+/* What the header defines itself: the two helpers, and the numbers' sizes. */
+#include <stdio.h>
+#include <stdlib.h>
+
+#include "nodhulika.h"
+
+static void expect(int holds, const char *what)
+{
+    if (!holds) {
+        fprintf(stderr, "not so: %s\n", what);
+        exit(EXIT_FAILURE);
+    }
+}
+
+#define EXPECT(condition) expect((condition), #condition)
+
+static void file_lengths(void)
+{
+    uint8_t record[NODHULIKA_LONGEST_FILE];
+    size_t i;
+
+    EXPECT(nodhulika_fresh(record, sizeof record) == NODHULIKA_OK);
+    EXPECT(nodhulika_file_length(record) == 6);
+    for (i = 0; i < 64; i++) {
+        EXPECT(nodhulika_sheet(record, sizeof record, 0, 1, 1, 1, 0, 0, 0, 0, 1,
+                               0, 0, 1, 0, 0, 1) == NODHULIKA_OK);
+        EXPECT(nodhulika_file_length(record) == 6 + 61 * (i + 1));
+    }
+    EXPECT(nodhulika_file_length(record) == NODHULIKA_LONGEST_FILE);
+}
+
+static void answer_numbers(void)
+{
+    static const uint8_t low_and_high[NODHULIKA_ANSWER] = {
+        0x80, 0,    0,    0,    0,    0,    0,    0,
+        0xff, 0xff, 0xff, 0xff, 0xff, 0xff, 0xff, 0xff,
+        0x7f, 0xff, 0xff, 0xff, 0xff, 0xff, 0xff, 0xff,
+    };
+    static const uint8_t small[NODHULIKA_ANSWER] = {
+        0,    0,    0,    0,    0,    0,    0,    0,
+        0,    0,    0,    0,    0,    0,    1,    2,
+        0xff, 0xff, 0xff, 0xff, 0xff, 0xff, 0xfe, 0xfe,
+    };
+
+    EXPECT(nodhulika_answer_number(low_and_high, 0) == INT64_MIN);
+    EXPECT(nodhulika_answer_number(low_and_high, 1) == -1);
+    EXPECT(nodhulika_answer_number(low_and_high, 2) == INT64_MAX);
+    EXPECT(nodhulika_answer_number(small, 0) == 0);
+    EXPECT(nodhulika_answer_number(small, 1) == 258);
+    EXPECT(nodhulika_answer_number(small, 2) == -258);
+}
+
+int main(void)
+{
+    file_lengths();
+    answer_numbers();
+    return EXIT_SUCCESS;
+}
