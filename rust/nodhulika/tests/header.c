@@ -1,4 +1,4 @@
-/* What the header defines itself: the two helpers, and the numbers' sizes. */
+/* What the header defines itself: its two inline functions. */
 #include <stdio.h>
 #include <stdlib.h>
 

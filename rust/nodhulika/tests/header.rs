@@ -1,5 +1,5 @@
-//! The header for C: it compiles without a warning, its helpers work, and the
-//! example for C prints its plates.
+//! The header for C: it compiles without a warning, its inline functions are
+//! right, and the example for C prints its plates.
 
 use std::env;
 use std::path::Path;
@@ -25,7 +25,7 @@ fn run(source: &str, name: &str) -> Output {
 }
 
 #[test]
-fn the_helpers_work() {
+fn its_inline_functions_are_right() {
     let output = run("rust/nodhulika/tests/header.c", "header");
     assert!(
         output.status.success(),
