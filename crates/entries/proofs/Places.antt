@@ -1,24 +1,29 @@
 -- What is found at a place: the byte there is the kind, and its row says how much must follow. Assumes nothing.
-use mathlib.Core.Path.{_≡_, refl, ap, _∙_}
+use mathlib.Core.Path.{_≡_, refl, sym, ap, _∙_}
+use mathlib.Core.Bool.{Bool, true, false, cond}
 use mathlib.Core.List.{List, [], _∷_, _++_}
-use mathlib.Core.Option.{none, some, bind}
+use mathlib.Core.Option.{Option, none, some, Option·map, bind}
 use Prim.Native.Nat.{ℕ, _+_, _-_, _≤_, _<_}
+use native.Mathlib.Decide.{decLe}
 use native.Mathlib.Numerals.{add-one}
 use native.Mathlib.Omega.{arith}
+use lib.Dec.{eqb}
+use lib.IntN.{ℤ}
 use lib.ListN.{length, getD, drop, replicate, length-drop, drop-of-length-le}
 use lib.Seq.{drop-cons}
-use borrow.Author.Tests.{le-leb, lt-leb}
+use borrow.Author.Tests.{le-leb, lt-leb, ne-eqb}
 use Rattle.paper.specs.declared.Entry.{Entry}
-use Rattle.paper.specs.File.{Field, fieldValue, layoutOf, theFields, takeEntry}
+use Rattle.paper.specs.File.{Field, fieldValue, layoutOf, theFields, entryOf, takeFields, takeEntry}
+use Rattle.paper.specs.Record.{asSheet}
 use Rattle.format.specs.Fields.{widths, total, numbersFrom, valuesBy, take-fields, numbers-length, widths-length}
-use Rattle.layout.specs.declared.Layout.{Layout}
+use Rattle.format.specs.Rows.{fieldsAt}
 use Rattle.layout.specs.Table.{padded, entryWith}
 use Rattle.entries.specs.declared.Walk.the-variants.{Got, Nothing}
-use Rattle.entries.specs.Walking.{wordsAt, walkAt}
-use Rattle.entries.proofs.Rows.{Known}
+use Rattle.entries.specs.declared.Walk.{Walk}
+use Rattle.entries.specs.Walking.{wordsAt, fieldsWalk, walkOf, walkAt, sheetIn}
 
 -- only as many numbers count as there are fields
-pub values-front : (fs : List Field) (ns ms : List ℕ) → length ns ≡ length fs → valuesBy fs (ns ++ ms) ≡ valuesBy fs ns
+values-front : (fs : List Field) (ns ms : List ℕ) → length ns ≡ length fs → valuesBy fs (ns ++ ms) ≡ valuesBy fs ns
 unfolding valuesBy
 values-front [] ns ms e = refl
 values-front (f ∷ fs) [] ms e = absurd (omega arith)
@@ -39,12 +44,12 @@ module _ (s : List ℕ) (at : ℕ) (h : at < length s) where
   left-over : length behind ≡ length s - (at + 1)
   left-over = length-drop (at + 1) s
 
-  pub no-row-here : layoutOf (getD s at 0) ≡ none → Nothing ≡ walkAt s at
+  no-row-here : layoutOf (getD s at 0) ≡ none → Nothing ≡ walkAt s at
   unfolding walkAt takeEntry bind
   no-row-here e = rw (here, e)
 
   module _ (fs : List Field) (e : layoutOf (getD s at 0) ≡ some fs) where
-    pub cut-off : length s - (at + 1) < total (widths fs) → Nothing ≡ walkAt s at
+    cut-off : length s - (at + 1) < total (widths fs) → Nothing ≡ walkAt s at
     unfolding walkAt takeEntry bind
     cut-off k = rw (here, e, take-fields fs behind, lt-leb (total (widths fs)) (length behind) (omega (arith, left-over)))
 
@@ -57,9 +62,59 @@ module _ (s : List ℕ) (at : ℕ) (h : at < length s) where
         let values = values-front fs ns (replicate (15 - length ns) 0) (numbers-length (widths fs) behind ∙ widths-length fs) in
         rw (here, e, take-fields fs behind, le-leb n (length behind) (omega (arith, left-over)), place, values)
 
-  -- as the code has it: the words of the kind, and the length of its row
-  pub got : (r : Layout) → Known r (getD s at 0) → (ns : List ℕ) (x : Entry) → ns ≡ wordsAt (getD s at 0) behind → x ≡ entryWith (getD s at 0) ns → r .length ≤ length s - (at + 1) → Got x (at + 1 + r .length) ≡ walkAt s at
-  unfolding wordsAt
-  got r k ns x n e m =
-      let words : ns ≡ padded (numbersFrom (widths (k .fields)) behind) = n ∙ ap (λ o. padded (numbersFrom (widths (theFields o)) behind)) (k .is) in
-      rw (e, words, k .row .size) (entry-here (k .fields) (k .is) (omega (arith, k .row .size)))
+    -- by how many bytes there are
+    pub kind-here : fieldsWalk (getD s at 0) s (at + 1) ≡ walkAt s at
+    unfolding fieldsWalk wordsAt
+    kind-here =
+        let n = total (widths fs) in
+        let fields : fieldsAt (getD s at 0) ≡ fs = ap theFields e in
+        elim (decLe n (length s - (at + 1))) as (λ d. fieldsWalk (getD s at 0) s (at + 1) ≡ walkAt s at) [
+          | yes k ↦ rw (fields, le-leb n (length s - (at + 1)) k) (entry-here k)
+          | no k ↦ rw (fields, lt-leb n (length s - (at + 1)) (omega arith)) (cut-off (omega arith))
+        ]
+
+-- as the code has it: a kind of the table, or none
+pub kind-got : (s : List ℕ) (at k : ℕ) (x : Walk) → at < length s → getD s at 0 ≡ k → layoutOf k ≡ some (fieldsAt k) → x ≡ fieldsWalk k s (at + 1) → x ≡ walkAt s at
+kind-got s at k x h e l w =
+    w ∙ ap (λ (j : ℕ). fieldsWalk j s (at + 1)) (sym e) ∙ kind-here s at h (fieldsAt k) (ap layoutOf e ∙ l)
+
+pub no-kind-got : (s : List ℕ) (at k : ℕ) → at < length s → getD s at 0 ≡ k → (k ≡ 1 → ⊥) → (k ≡ 2 → ⊥) → (k ≡ 3 → ⊥) → Nothing ≡ walkAt s at
+unfolding layoutOf
+no-kind-got s at k h e a b c = no-row-here s at h (ap layoutOf e ∙ rw (ne-eqb k 1 a, ne-eqb k 2 b, ne-eqb k 3 c))
+
+-- the fields of a kind that takes n bytes behind its own
+module _ (k : ℕ) (s : List ℕ) (from n : ℕ) (e : n ≡ total (widths (fieldsAt k))) where
+  pub fields-short : length s - from < n → Nothing ≡ fieldsWalk k s from
+  unfolding fieldsWalk
+  fields-short h = rw (← e, lt-leb n (length s - from) h)
+
+  pub fields-got : n ≤ length s - from → (ns : List ℕ) (x : Entry) → ns ≡ wordsAt k (drop from s) → x ≡ entryWith k ns → Got x (from + n) ≡ fieldsWalk k s from
+  unfolding fieldsWalk
+  fields-got h ns x w f = rw (← e, le-leb n (length s - from) h, f, w)
+
+-- ---- what stands there is no sheet
+
+not-sheet : (k : ℕ) (vs : List ℤ) → (k ≡ 2 → ⊥) → asSheet (entryOf k vs) ≡ none
+unfolding entryOf
+not-sheet k vs h = by (eqb k 1)
+  where
+    by : (t : Bool) → asSheet (cond t (entryOf 1 vs) (cond (eqb k 2) (entryOf 2 vs) (entryOf 3 vs))) ≡ none
+    by true = refl
+    by false = rw (ne-eqb k 2 h)
+
+no-sheet-of : (n k : ℕ) (o : Option (List ℤ × List ℕ)) → (k ≡ 2 → ⊥) → sheetIn (walkOf n (Option·map (λ (z : List ℤ × List ℕ). (entryOf k (z .0), z .1)) o)) ≡ none
+no-sheet-of n k none h = refl
+no-sheet-of n k (some z) h = not-sheet k (z .0) h
+
+no-sheet-by : (n k : ℕ) (o : Option (List Field)) (xs : List ℕ) → (k ≡ 2 → ⊥) → sheetIn (walkOf n (bind o (λ (fs : List Field). Option·map (λ (z : List ℤ × List ℕ). (entryOf k (z .0), z .1)) (takeFields fs xs)))) ≡ none
+unfolding bind
+no-sheet-by n k none xs h = refl
+no-sheet-by n k (some fs) xs h = no-sheet-of n k (takeFields fs xs) h
+
+pub no-sheet-here : (s : List ℕ) (at : ℕ) → at < length s → (getD s at 0 ≡ 2 → ⊥) → sheetIn (walkAt s at) ≡ none
+unfolding walkAt takeEntry
+no-sheet-here s at h k = rw (here s at h) (no-sheet-by (length s) (getD s at 0) (layoutOf (getD s at 0)) (drop (at + 1) s) k)
+
+pub sheet-here : (s : List ℕ) (at : ℕ) (x : Walk) → at < length s → getD s at 0 ≡ 2 → x ≡ fieldsWalk 2 s (at + 1) → x ≡ walkAt s at
+unfolding layoutOf
+sheet-here s at x h e w = kind-got s at 2 x h e refl w

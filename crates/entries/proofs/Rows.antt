@@ -56,26 +56,6 @@ row-of r fs e l =
       narrow = l .narrow;
     })
 
--- a row of no field is that of no kind
-pub no-kind : (o : Option (List Field)) → ((fs : List Field) → o ≡ some fs → Listed fs) → rowOf o .count ≡ 0 → o ≡ none
-no-kind none l e = refl
-no-kind (some fs) l e = absurd (omega (arith, l fs refl .some-field))
-
--- any other is that of a kind of the table
-pub record Known (r : Layout) (k : ℕ) : Type 0 where
-  pub fields : List Field
-  pub is : layoutOf k ≡ some fields
-  pub row : RowOf r fields
-
-some-kind : (o : Option (List Field)) → (rowOf o .count ≡ 0 → ⊥) → (fs : List Field) × (o ≡ some fs)
-some-kind none h = absurd (h refl)
-some-kind (some fs) h = (fs, refl)
-
-pub known : (k : ℕ) (r : Layout) → r ≡ rowOf (layoutOf k) → (r .count ≡ 0 → ⊥) → Known r k
-known k r e h =
-    let s = some-kind (layoutOf k) (λ z. h (ap (λ (l : Layout). l .count) e ∙ z)) in
-    record { fields = s .0; is = s .1; row = row-of r (s .0) (e ∙ ap rowOf (s .1)) (listed k (s .0) (s .1)) }
-
 -- ---- an entry's row and words
 
 words-length : (fs : List Field) (vs : List ℤ) → length vs ≡ length fs → length (wordsBy fs vs) ≡ length fs

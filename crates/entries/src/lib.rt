@@ -4,15 +4,12 @@ use layout::Layout;
 use paper::Entry;
 use words::number_at;
 ghost use mathlib.Core.Path.{_≡_};
-ghost use mathlib.Core.Bool.{false};
 ghost use Prim.Native.Nat.{_+_, _≤_};
 ghost use lib.ListN.{length, take, drop};
 ghost use Rattle.laws.specs.Written.{written};
-ghost use Rattle.paper.specs.File.{layoutOf, entryBytes};
-ghost use Rattle.paper.specs.Refusals.{isNone};
-ghost use Rattle.format.specs.Fields.{widths, total, numbersBytes};
-ghost use Rattle.format.specs.Rows.{fieldsAt};
-ghost use Rattle.entries.specs.Walking.{wordsAt, walkAt};
+ghost use Rattle.paper.specs.File.{entryBytes};
+ghost use Rattle.format.specs.Fields.{total, numbersBytes};
+ghost use Rattle.entries.specs.Walking.{wordsAt, fieldsWalk, walkAt};
 
 // What reading an entry at a place finds: it and the place behind it, or nothing that is one.
 pub enum Walk {
@@ -152,16 +149,37 @@ fn change_at(s: &[u8], at: usize) -> [u32; FIELDS]
     ]
 }
 
-// The words of an entry of a kind of the table.
-fn words_at(s: &[u8], at: usize, kind: u8) -> [u32; FIELDS]
-    requires { ⌜ (isNone (layoutOf kind) ≡ false) × (at + total (widths (fieldsAt kind)) ≤ length (now s)) ⌝ }
-    ensures { λ r. ⌜ r ≡ wordsAt kind (drop at (now (s .entry))) ⌝ }
+// What stands behind the kind of a weighing: its fields, where there are bytes enough.
+fn weighing_from(s: &[u8], from: usize) -> Walk
+    requires { ⌜ from ≤ length (now s) ⌝ }
+    ensures { λ r. ⌜ r ≡ fieldsWalk 1 (now (s .entry)) from ⌝ }
 {
-    match kind {
-        1 => weighing_at(s, at),
-        2 => sheet_at(s, at),
-        _ => change_at(s, at),
+    if s.len() - from < 21 {
+        return Walk::Nothing;
     }
+    Walk::Got(layout::entry_of(1, weighing_at(s, from)), from + 21)
+}
+
+// Behind the kind of a sheet.
+pub fn sheet_from(s: &[u8], from: usize) -> Walk
+    requires { ⌜ from ≤ length (now s) ⌝ }
+    ensures { λ r. ⌜ r ≡ fieldsWalk 2 (now (s .entry)) from ⌝ }
+{
+    if s.len() - from < 60 {
+        return Walk::Nothing;
+    }
+    Walk::Got(layout::entry_of(2, sheet_at(s, from)), from + 60)
+}
+
+// Behind the kind of a change.
+fn change_from(s: &[u8], from: usize) -> Walk
+    requires { ⌜ from ≤ length (now s) ⌝ }
+    ensures { λ r. ⌜ r ≡ fieldsWalk 3 (now (s .entry)) from ⌝ }
+{
+    if s.len() - from < 9 {
+        return Walk::Nothing;
+    }
+    Walk::Got(layout::entry_of(3, change_at(s, from)), from + 9)
 }
 
 // The entry at a place.
@@ -172,15 +190,10 @@ pub fn next_entry(s: &[u8], at: usize) -> Walk
         return Walk::Nothing;
     }
     let kind = s[at];
-    let row = layout::layout_of(kind);
-    if row.count == 0 {
-        return Walk::Nothing;
+    match kind {
+        1 => weighing_from(s, at + 1),
+        2 => sheet_from(s, at + 1),
+        3 => change_from(s, at + 1),
+        _ => Walk::Nothing,
     }
-    let from = at + 1;
-    let length = row.length;
-    if s.len() - from < length {
-        return Walk::Nothing;
-    }
-    let n = words_at(s, from, kind);
-    Walk::Got(layout::entry_of(kind, n), from + length)
 }

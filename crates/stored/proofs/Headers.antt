@@ -2,7 +2,7 @@
 use mathlib.Core.Path.{_≡_, refl, sym, ap, _∙_}
 use mathlib.Core.Bool.{Bool, true, false, cond, _&&_, and-false}
 use mathlib.Core.List.{List, [], _∷_}
-use mathlib.Core.Option.{none, some, bind, Option·none-ne-some}
+use mathlib.Core.Option.{Option, none, some, bind, Option·none-ne-some}
 use Prim.Native.Nat.{ℕ, _-_, _≤_, _<_}
 use native.Mathlib.Decide.{decLe}
 use native.Mathlib.Omega.{arith}
@@ -12,13 +12,14 @@ use lib.Pow.{areBytes}
 use lib.Seq.{drop-drop, getD-drop}
 use borrow.Author.Tests.{le-leb, lt-leb, leb-true, eq-eqb, ne-eqb}
 use Rattle.laws.specs.Options.{none-either, tests-both}
-use Rattle.laws.specs.Tests.{left}
+use Rattle.laws.specs.Tests.{left, isnt}
 use Rattle.paper.specs.declared.Entry.{Entry}
 use Rattle.paper.specs.File.{numberOf, version, takeNumber, takeEntries, takeBody, laidOut}
-use Rattle.paper.specs.Refusals.{onlyAccepted, fileOf}
+use Rattle.paper.specs.Refusals.{accepted, onlyAccepted, fileOf}
 use Rattle.format.specs.Numbers.{bytes-drop}
 use Rattle.format.specs.Entries.{entries-written}
 use Rattle.format.specs.Files.{only-accepted}
+use Rattle.judge.proofs.Accepted.{at-most-64}
 use Rattle.stored.specs.Header.{headed}
 
 pub too-few : (xs : List ℕ) → length xs < 6 → headed xs ≡ false
@@ -112,3 +113,13 @@ module _ (xs : List ℕ) where
 
     pub entries-of : (es : List Entry) → fileOf xs ≡ some es → takeEntries (length es) (drop 6 xs) ≡ some es
     entries-of es h = entries-by (headed xs) refl es h
+
+    -- more entries than a record may have
+    pub too-many : headed xs ≡ true → 64 < getD xs 5 0 → fileOf xs ≡ none
+    too-many e h = more-than (takeEntries (getD xs 5 0) (drop 6 xs)) refl
+      where
+        more-than : (o : Option (List Entry)) → takeEntries (getD xs 5 0) (drop 6 xs) ≡ o → fileOf xs ≡ none
+        more-than none t = good-header e ∙ ap onlyAccepted t
+        more-than (some es) t =
+            let n = entries-written (getD xs 5 0) (drop 6 xs) es (bytes-drop 6 xs b) t .1 in
+            good-header e ∙ ap onlyAccepted t ∙ rw (isnt (accepted es) (λ a. omega (arith, at-most-64 es a)))

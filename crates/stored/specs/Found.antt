@@ -9,15 +9,12 @@ use lib.ListN.{length}
 use Rattle.paper.specs.declared.Sheet.{Sheet}
 use Rattle.paper.specs.declared.Entry.{Entry}
 use Rattle.paper.specs.declared.Entry.the-variants as entry
-use Rattle.paper.specs.Record.{balanceOf, asSheet, sheetOf}
+use Rattle.paper.specs.Record.{balanceOf, sheetOf}
 use Rattle.paper.specs.Rows.{joined}
 use Rattle.paper.specs.File.{entryBytes}
 use Rattle.paper.specs.Journal.{withoutLast}
 use Rattle.judge.specs.Standing.{plainly, Sound}
-use Rattle.entries.specs.declared.Walk.{Walk}
-use Rattle.entries.specs.declared.Walk.the-variants as walk
-use Rattle.entries.specs.declared.Walk.the-variants.{Got}
-use Rattle.entries.specs.Walking.{walkAt}
+use Rattle.entries.specs.Walking.{walkAt, sheetIn}
 use Rattle.stored.specs.declared.Contents.{Contents}
 use Rattle.stored.specs.declared.Stored.{Stored}
 use Rattle.stored.specs.declared.Stored.the-variants.{Nothing, File}
@@ -27,10 +24,6 @@ abbrev pub bytesIn : List Entry → List ℕ
 bytesIn es = joined (map entryBytes es)
 
 -- the sheet at a place, none at the place 0, which is the header's
-abbrev pub sheetIn : Walk → Option Sheet
-sheetIn (Got e place) = asSheet e
-sheetIn walk.Nothing = none
-
 unfoldable pub sheetAt : List ℕ → ℕ → Option Sheet
 sheetAt s at = cond (eqb at 0) none (sheetIn (walkAt s at))
 

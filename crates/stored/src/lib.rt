@@ -2,6 +2,7 @@
 use entries::Walk;
 use judge::Judged;
 use judge::Standing;
+use paper::CAPACITY;
 use paper::Entry;
 use sheet::InForce;
 ghost use mathlib.Core.Path.{_≡_};
@@ -19,6 +20,9 @@ const VERSION: u8 = 1;
 
 // The length, the version and the count of entries come first.
 pub const HEADER: usize = 6;
+
+// The kind of a sheet.
+const SHEET: u8 = 2;
 
 // What stands in the file of a record: how many entries, their balance, the place of the sheet in force (0 where there is
 // none), the place of the last entry (behind the header where there is none) and the place behind it.
@@ -75,7 +79,13 @@ pub fn sheet_at(s: &[u8], at: usize) -> InForce
     if at == 0 {
         return InForce::Nothing;
     }
-    let Walk::Got(e, _) = reader::entry_at(s, at) else {
+    if s.len() <= at {
+        return InForce::Nothing;
+    }
+    if s[at] != SHEET {
+        return InForce::Nothing;
+    }
+    let Walk::Got(e, _) = entries::sheet_from(s, at + 1) else {
         return InForce::Nothing;
     };
     sheet::later(InForce::Nothing, e)
@@ -123,5 +133,8 @@ pub fn survey(s: &[u8]) -> Stored
         return Stored::Nothing;
     }
     let count = s[5] as usize;
+    if CAPACITY < count {
+        return Stored::Nothing;
+    }
     survey_entries(s, count)
 }

@@ -1,13 +1,9 @@
--- `entries::next_entry` meets its contract: each return by the row of the kind that stands at the place. Assumes nothing.
-use mathlib.Core.Path.{ap, _∙_, sym}
-use native.Mathlib.Omega.{arith}
+-- `entries::next_entry` meets its contract: by the kind that stands at the place, and each kind by its own function.
+-- Assumes nothing.
 use borrow.Author.Needs.{needs}
-use lib.ListN.{getD}
-use Rattle.paper.specs.File.{layoutOf, theFields}
-use Rattle.paper.specs.Refusals.{isNone}
-use Rattle.format.specs.Fields.{widths, total}
-use Rattle.entries.proofs.Rows.{Known, known, no-kind, listed}
-use Rattle.entries.proofs.Places.{at-end, no-row-here, cut-off, got}
+use mathlib.Core.Path.{refl}
+use Rattle.paper.specs.File.{layoutOf}
+use Rattle.entries.proofs.Places.{at-end, kind-got, no-kind-got}
 use Rattle.entries.proofs.next_entry.Statement.{statement}
 use Rattle.entries.proofs.next_entry.Tie as tie
 
@@ -17,54 +13,54 @@ returns c = let a = c .before .before .args in at-end (a .s .now) (a .at) (c .if
 shared-slice-read-kind : tie.Need-shared-slice-read-kind
 shared-slice-read-kind c = search needs
 
-layout-of-requires : tie.Need-layout-of-requires
-layout-of-requires c κs = search needs
+add-weighing-from : tie.Need-add-weighing-from
+add-weighing-from c = search needs
+
+weighing-from-requires : tie.Need-weighing-from-requires
+weighing-from-requires c κs = search needs
+
+add-sheet-from : tie.Need-add-sheet-from
+add-sheet-from c = search needs
+
+sheet-from-requires : tie.Need-sheet-from-requires
+sheet-from-requires c κs = search needs
+
+add-change-from : tie.Need-add-change-from
+add-change-from c = search needs
+
+change-from-requires : tie.Need-change-from-requires
+change-from-requires c κs = search needs
 
 returns-2 : tie.Need-returns-2
+unfolding layoutOf
 returns-2 c =
-    let l = c .before .before in
-    let a = l .before .before .before .before .args in
-    let k = getD (a .s .now) (a .at) 0 in
-    let none-is = no-kind (layoutOf k) (listed k) (ap (λ r. r .count) (sym (l .layout-of .ensures)) ∙ omega arith) in
-    no-row-here (a .s .now) (a .at) (l .before .before .if1 .left) none-is
-
-add-from : tie.Need-add-from
-add-from c = search needs
-
-sub-if3 : tie.Need-sub-if3
-sub-if3 c = search needs
-
--- the kind has a row
-row : (c : tie.Else2) → Known (c .before .before .layout-of .result) (getD (c .before .before .before .before .before .before .args .s .now) (c .before .before .before .before .before .before .args .at) 0)
-row c = let l = c .before .before .layout-of in known _ (l .result) (l .ensures) (λ z. omega arith)
+    let b = c .before in
+    let t = b .before .before in
+    let a = t .before .before .args in
+    kind-got (a .s .now) (a .at) 1 _ (t .if1 .left) (b .match .keys1) refl (c .weighing-from .ensures)
 
 returns-3 : tie.Need-returns-3
+unfolding layoutOf
 returns-3 c =
     let b = c .before in
-    let a = b .before .before .before .before .before .before .args in
-    let k = row b in
-    cut-off (a .s .now) (a .at) (b .before .before .before .before .if1 .left) (k .fields) (k .is) (omega (arith, k .row .size))
-
-words-at-requires : tie.Need-words-at-requires
-unfolding isNone
-words-at-requires c κs =
-    let k = row (c .before) in
-    let size = ap (λ o. total (widths (theFields o))) (k .is) in
-    (rw (k .is), omega (arith, size, k .row .size))
-
-entry-of-requires : tie.Need-entry-of-requires
-unfolding isNone
-entry-of-requires c κs = let k = row (c .before .before) in rw (k .is)
-
-add-t8 : tie.Need-add-t8
-add-t8 c = search needs
+    let t = b .before .before in
+    let a = t .before .before .args in
+    kind-got (a .s .now) (a .at) 2 _ (t .if1 .left) (b .match .keys2) refl (c .sheet-from .ensures)
 
 returns-4 : tie.Need-returns-4
+unfolding layoutOf
 returns-4 c =
-    let w = c .before in
-    let b = w .before .before in
-    let a = b .before .before .before .before .before .before .args in
-    got (a .s .now) (a .at) (b .before .before .before .before .if1 .left) (b .before .before .layout-of .result) (row b) (w .words-at .result) (c .entry-of .result) (w .words-at .ensures) (c .entry-of .ensures) (omega arith)
+    let b = c .before in
+    let t = b .before .before in
+    let a = t .before .before .args in
+    kind-got (a .s .now) (a .at) 3 _ (t .if1 .left) (b .match .keys3) refl (c .change-from .ensures)
+
+returns-5 : tie.Need-returns-5
+returns-5 c =
+    let t = c .before .before in
+    let a = t .before .before .args in
+    let m = c .match .rest in
+    no-kind-got (a .s .now) (a .at) _ (t .if1 .left) refl (m .0 .0 .1) (m .0 .1) (m .1)
 
 pub next-entry-spec : {M : Type 1} → statement M
 next-entry-spec =
@@ -72,12 +68,13 @@ next-entry-spec =
     (tie.spec
     returns
     shared-slice-read-kind
-    layout-of-requires
+    add-weighing-from
+    weighing-from-requires
+    add-sheet-from
+    sheet-from-requires
+    add-change-from
+    change-from-requires
     returns-2
-    add-from
-    sub-if3
     returns-3
-    words-at-requires
-    entry-of-requires
-    add-t8
-    returns-4)
+    returns-4
+    returns-5)

@@ -8,7 +8,7 @@ use Rattle.laws.specs.Tests.{failed, passed}
 use Rattle.format.specs.Numbers.{bytes-at}
 use Rattle.stored.specs.Header.{headed}
 use Rattle.stored.specs.Found.{Finds}
-use Rattle.stored.proofs.Headers.{enough-bytes, bad-header, good-header}
+use Rattle.stored.proofs.Headers.{enough-bytes, bad-header, good-header, too-many}
 use Rattle.stored.proofs.survey.Statement.{statement}
 use Rattle.stored.proofs.survey.Tie as tie
 
@@ -34,12 +34,18 @@ shared-slice-read-count c = omega (arith, enough-bytes (c .before .before .befor
 cast-count : tie.Need-cast-count
 cast-count c = omega (arith, c .shared-slice-known2 .given 5)
 
-survey-entries-requires : tie.Need-survey-entries-requires
-survey-entries-requires c κs = search needs
-
 returns-2 : tie.Need-returns-2
 returns-2 c =
     let e = c .before .before in
+    let b = e .before .before in
+    too-many (b .before .args .s .now) (bytes b) (right e) (c .if2 .taken)
+
+survey-entries-requires : tie.Need-survey-entries-requires
+survey-entries-requires c κs = search needs
+
+returns-3 : tie.Need-returns-3
+returns-3 c =
+    let e = c .before .before .before in
     let b = e .before .before in
     rw (good-header (b .before .args .s .now) (bytes b) (right e)) (c .survey-entries .ensures)
 
@@ -51,5 +57,6 @@ survey-spec =
     returns
     shared-slice-read-count
     cast-count
+    returns-2
     survey-entries-requires
-    returns-2)
+    returns-3)

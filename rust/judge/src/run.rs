@@ -1,0 +1,272 @@
+//! Calls and a placard run to their end by one implementation or another, so
+//! that all that can be seen of them is compared as a whole: every number and
+//! every byte.
+
+use crate::direct;
+use crate::generate::Case;
+use crate::paper::{Call, Centre, Change, Counts, Journal};
+
+/// A placard of more tests of the limits than this takes plain loops too long.
+pub const WORK: u64 = 2_000_000;
+
+/// Numbers that are not a call's own: the buffer is too short, or holds no
+/// record.
+const SHORT: u64 = 11;
+const FILE: u64 = 12;
+
+/// Bytes of the placard's buffer where a record is found and not made.
+const LONGEST_PLACARD: usize = 9_216;
+
+/// A record lent at the front of a buffer, and the calls on it.
+pub trait Lent {
+    /// Takes a buffer as it is: its front may be a record's file.
+    fn found(buffer: Vec<u8>) -> Self;
+
+    /// The whole buffer.
+    fn buffer(&self) -> &[u8];
+
+    /// Begins a fresh record; its number.
+    fn fresh(&mut self) -> u64;
+
+    /// Whether a record stands: 0 or 12.
+    fn check(&self) -> u64;
+
+    /// Makes a call; its number.
+    fn call(&mut self, call: &Call) -> u64;
+
+    /// The empty centre of gravity.
+    fn centre(&self) -> Result<Centre, u64>;
+
+    /// The placard, into the front of `out`.
+    fn placard(&self, out: &mut [u8]) -> Result<Counts, u64>;
+}
+
+// ---- By the paper ----
+
+/// A record by plain loops: a journal of the calls' arguments, which is written
+/// to the buffer after each accepted call and never read from it again.
+pub struct Paper {
+    /// The journal, where the buffer holds a record.
+    pub journal: Option<Journal>,
+    buffer: Vec<u8>,
+}
+
+impl Paper {
+    /// What plain loops would take for the placard.
+    pub fn work(&self) -> u64 {
+        self.journal.as_ref().map_or(0, Journal::placard_work)
+    }
+
+    /// Writes a journal's file to the front; 0, or 11 where it does not fit.
+    fn put(&mut self, journal: Journal) -> u64 {
+        match journal.write(&mut self.buffer) {
+            Ok(_) => {
+                self.journal = Some(journal);
+                0
+            }
+            Err(number) => number,
+        }
+    }
+}
+
+impl Lent for Paper {
+    fn found(buffer: Vec<u8>) -> Paper {
+        let journal = front_file(&buffer).and_then(|file| Journal::read(file).ok());
+        Paper { journal, buffer }
+    }
+
+    fn buffer(&self) -> &[u8] {
+        &self.buffer
+    }
+
+    fn fresh(&mut self) -> u64 {
+        self.put(Journal::new())
+    }
+
+    fn check(&self) -> u64 {
+        if self.journal.is_some() {
+            0
+        } else {
+            FILE
+        }
+    }
+
+    /// 12 without a record, then the journal's number, then 11.
+    fn call(&mut self, call: &Call) -> u64 {
+        let mut after = match (&self.journal, call) {
+            (Some(journal), _) => journal.clone(),
+            (None, Call::Read(_)) => Journal::new(),
+            (None, _) => return FILE,
+        };
+        match after.call(call) {
+            0 => self.put(after),
+            number => number,
+        }
+    }
+
+    fn centre(&self) -> Result<Centre, u64> {
+        self.journal.as_ref().ok_or(FILE)?.centre()
+    }
+
+    fn placard(&self, out: &mut [u8]) -> Result<Counts, u64> {
+        self.journal.as_ref().ok_or(FILE)?.placard(out)
+    }
+}
+
+/// The first 4 + L bytes of a buffer, where it has as many.
+fn front_file(buffer: &[u8]) -> Option<&[u8]> {
+    let length = u32::from_be_bytes(*buffer.first_chunk()?);
+    buffer.get(..4 + length as usize)
+}
+
+// ---- By the direct functions ----
+
+/// A record by the direct functions, which know the buffer alone.
+pub struct Direct {
+    buffer: Vec<u8>,
+}
+
+impl Lent for Direct {
+    fn found(buffer: Vec<u8>) -> Direct {
+        Direct { buffer }
+    }
+
+    fn buffer(&self) -> &[u8] {
+        &self.buffer
+    }
+
+    fn fresh(&mut self) -> u64 {
+        direct::fresh(&mut self.buffer)
+    }
+
+    fn check(&self) -> u64 {
+        direct::check(&self.buffer)
+    }
+
+    fn call(&mut self, call: &Call) -> u64 {
+        direct::call(&mut self.buffer, call)
+    }
+
+    fn centre(&self) -> Result<Centre, u64> {
+        direct::centre(&self.buffer)
+    }
+
+    fn placard(&self, out: &mut [u8]) -> Result<Counts, u64> {
+        direct::placard(&self.buffer, out)
+    }
+}
+
+// ---- Running ----
+
+/// What is run: a record's buffer, calls on it, and a placard's buffer.
+#[derive(Clone, Debug)]
+pub struct Trial<'a> {
+    /// The record's buffer as it is lent.
+    pub buffer: Vec<u8>,
+    /// Whether a fresh record is begun before the calls.
+    pub fresh: bool,
+    /// The calls in order.
+    pub calls: &'a [Call],
+    /// The placard's buffer as it is lent.
+    pub plate: Vec<u8>,
+}
+
+/// All that can be seen of the calls.
+#[derive(Clone, Debug, PartialEq, Eq)]
+pub struct Answers {
+    /// Number of the fresh record, where one is begun.
+    pub fresh: Option<u64>,
+    /// Numbers of the calls.
+    pub numbers: Vec<u64>,
+    /// The record's buffer before the first call and after each.
+    pub buffers: Vec<Vec<u8>>,
+    /// Whether a record stands in the end: 0 or 12.
+    pub check: u64,
+    /// The centre of gravity in the end.
+    pub centre: Result<Centre, u64>,
+}
+
+/// All that can be seen of the placard.
+#[derive(Clone, Debug, PartialEq, Eq)]
+pub struct Plate {
+    /// Its counts, or the number of its refusal.
+    pub answer: Result<Counts, u64>,
+    /// Its buffer afterwards.
+    pub bytes: Vec<u8>,
+    /// The record's buffer afterwards.
+    pub record: Vec<u8>,
+}
+
+/// Calls on a record that was found: an entry more and two entries less.
+static LATER: [Call; 3] = [
+    Call::Change(Change {
+        c: 700,
+        arm: -90_000,
+        flag: 1,
+    }),
+    Call::Undo,
+    Call::Undo,
+];
+
+impl Trial<'_> {
+    /// A case as it is meant, its calls on a fresh record.
+    pub fn of(case: &Case) -> Trial<'_> {
+        Trial {
+            buffer: vec![case.fill; case.room],
+            fresh: true,
+            calls: &case.calls,
+            plate: vec![case.fill; case.plate],
+        }
+    }
+
+    /// The file that a case reads back last, good or damaged, lent as it is: as
+    /// the whole of a buffer and with bytes behind it, as it stands and with
+    /// later calls.
+    pub fn of_content(case: &Case) -> Vec<Trial<'static>> {
+        let Some(content) = case.content() else {
+            return Vec::new();
+        };
+        let longer = [content, &[case.fill; 40]].concat();
+        [content.to_vec(), longer]
+            .into_iter()
+            .flat_map(|buffer| [(buffer.clone(), &LATER[..0]), (buffer, &LATER[..])])
+            .map(|(buffer, calls)| Trial {
+                buffer,
+                fresh: false,
+                calls,
+                plate: vec![case.fill; LONGEST_PLACARD],
+            })
+            .collect()
+    }
+
+    /// Makes the calls; the record in the end, and all that was seen.
+    pub fn run<L: Lent>(&self) -> (L, Answers) {
+        let mut lent = L::found(self.buffer.clone());
+        let fresh = self.fresh.then(|| lent.fresh());
+        let mut numbers = Vec::with_capacity(self.calls.len());
+        let mut buffers = vec![lent.buffer().to_vec()];
+        for call in self.calls {
+            numbers.push(lent.call(call));
+            buffers.push(lent.buffer().to_vec());
+        }
+        let answers = Answers {
+            fresh,
+            numbers,
+            buffers,
+            check: lent.check(),
+            centre: lent.centre(),
+        };
+        (lent, answers)
+    }
+
+    /// Asks for the placard of a record in the end.
+    pub fn placard(&self, lent: &impl Lent) -> Plate {
+        let mut bytes = self.plate.clone();
+        let answer = lent.placard(&mut bytes);
+        Plate {
+            answer,
+            bytes,
+            record: lent.buffer().to_vec(),
+        }
+    }
+}
