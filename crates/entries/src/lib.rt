@@ -86,7 +86,7 @@ fn weighing_at(s: &[u8], at: usize) -> [u32; FIELDS]
 }
 
 // The words of a sheet: FWD, AFT, DRY, WET, NLP; front arm, least, greatest, step; rear and water arm, greatest, step.
-fn sheet_at(s: &[u8], at: usize) -> [u32; FIELDS]
+pub fn sheet_at(s: &[u8], at: usize) -> [u32; FIELDS]
     requires { ⌜ at + 60 ≤ length (now s) ⌝ }
     ensures { λ r. ⌜ r ≡ wordsAt 2 (drop at (now (s .entry))) ⌝ }
 {
@@ -161,7 +161,7 @@ fn weighing_from(s: &[u8], from: usize) -> Walk
 }
 
 // Behind the kind of a sheet.
-pub fn sheet_from(s: &[u8], from: usize) -> Walk
+fn sheet_from(s: &[u8], from: usize) -> Walk
     requires { ⌜ from ≤ length (now s) ⌝ }
     ensures { λ r. ⌜ r ≡ fieldsWalk 2 (now (s .entry)) from ⌝ }
 {

@@ -85,10 +85,14 @@ pub fn sheet_at(s: &[u8], at: usize) -> InForce
     if s[at] != SHEET {
         return InForce::Nothing;
     }
-    let Walk::Got(e, _) = entries::sheet_from(s, at + 1) else {
+    let from = at + 1;
+    if s.len() - from < 60 {
         return InForce::Nothing;
-    };
-    sheet::later(InForce::Nothing, e)
+    }
+    sheet::later(
+        InForce::Nothing,
+        layout::entry_of(SHEET, entries::sheet_at(s, from)),
+    )
 }
 
 // What stands behind the header, judged entry by entry: just as many entries as the count says, and no byte over.

@@ -1,9 +1,13 @@
 // Numbers as the file spells them: bytes with the highest first, and two's complement in four of them.
+use std::num::wrapping_add_u32;
 ghost use mathlib.Core.Path.{_≡_};
 ghost use Prim.Native.Nat.{_+_, _≤_};
 ghost use lib.ListN.{length, take, drop};
 ghost use Rattle.laws.specs.Written.{written};
 ghost use Rattle.paper.specs.File.{bytesOf, numberOf, complement, signedWord, fieldValue};
+
+// The first word that stands for a number below 0.
+const MIDDLE: u32 = 2_147_483_648;
 
 // The number that `width` bytes from `at` on spell.
 pub fn number_at(s: &[u8], at: usize, width: usize) -> u32
@@ -58,14 +62,10 @@ pub fn long_of(x: i64) -> u64
     18_446_744_073_709_551_615 - laws::under(x)
 }
 
-// The signed number that a word stands for.
+// The signed number that a word stands for: words from the middle on are below 0. There is no branch in it, so that the four
+// bytes of a word are read at once.
 pub fn signed(n: u32) -> i64
     ensures { λ r. ⌜ r ≡ fieldValue signedWord n ⌝ }
 {
-    let value = n as i64;
-    if n < 2_147_483_648 {
-        value
-    } else {
-        value - 4_294_967_296
-    }
+    wrapping_add_u32(n, MIDDLE) as i64 - 2_147_483_648
 }

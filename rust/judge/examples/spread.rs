@@ -3,12 +3,9 @@
 //!
 //! `cargo run --release --example spread [cases] [seed]`
 
-#[path = "../tests/common/mod.rs"]
-mod common;
-
-use common::{by_direct, calls_by_paper, Answers};
 use judge::generate::{case, Case};
 use judge::paper::Entry;
+use judge::run::{Direct, Paper, Trial};
 use std::collections::BTreeMap;
 
 #[derive(Default)]
@@ -26,9 +23,8 @@ struct Spread {
 }
 
 /// The first and the last step of the sheet in force, as the placard prints them.
-fn whole_range(case: &Case) -> Option<(String, String)> {
-    let (_, _, lent) = calls_by_paper(case);
-    let entries = lent.journal?.entries;
+fn whole_range(paper: &Paper) -> Option<(String, String)> {
+    let entries = &paper.journal.as_ref()?.entries;
     let sheet = entries.iter().rev().find_map(|entry| match entry {
         Entry::Sheet(sheet) => Some(*sheet),
         _ => None,
@@ -40,24 +36,27 @@ fn whole_range(case: &Case) -> Option<(String, String)> {
 }
 
 impl Spread {
-    fn add(&mut self, case: &Case, answers: &Answers) {
+    fn add(&mut self, case: &Case) {
+        let trial = Trial::of(case);
+        let (direct, answers) = trial.run::<Direct>();
+        let plate = trial.placard(&direct);
         for number in &answers.numbers {
             self.calls[*number as usize] += 1;
         }
         self.centres[answers.centre.err().unwrap_or(0) as usize] += 1;
-        self.placards[answers.placard.err().unwrap_or(0) as usize] += 1;
-        let (_, _, lent) = calls_by_paper(case);
+        self.placards[plate.answer.err().unwrap_or(0) as usize] += 1;
+        let (paper, _) = trial.run::<Paper>();
         let standing = self.standing.entry(case.kind).or_default();
-        standing[0] += u64::from(lent.work() > 0);
+        standing[0] += u64::from(paper.work() > 0);
         standing[1] += 1;
-        self.heavy += u64::from(lent.work() > 1_000_000);
-        if let Ok(counts) = answers.placard {
-            self.add_rows(case, &answers.plate[..counts.bytes]);
+        self.heavy += u64::from(paper.work() > 1_000_000);
+        if let Ok(counts) = plate.answer {
+            self.add_rows(case, &paper, &plate.bytes[..counts.bytes]);
         }
     }
 
-    fn add_rows(&mut self, case: &Case, plate: &[u8]) {
-        let Some((first, last)) = whole_range(case) else {
+    fn add_rows(&mut self, case: &Case, paper: &Paper, plate: &[u8]) {
+        let Some((first, last)) = whole_range(paper) else {
             return;
         };
         let rows = self.rows.entry(case.kind).or_default();
@@ -112,8 +111,7 @@ fn main() {
     let seed = arguments.next().unwrap_or(1);
     let mut spread = Spread::default();
     for index in 0..cases {
-        let case = case(seed, index);
-        spread.add(&case, &by_direct(&case));
+        spread.add(&case(seed, index));
     }
     spread.print();
 }

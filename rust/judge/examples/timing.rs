@@ -3,21 +3,27 @@
 //!
 //! `cargo run --release --example timing [cases] [seed]`
 
-#[path = "../tests/common/mod.rs"]
-mod common;
-
-use common::{by_direct, by_paper};
 use judge::generate::case;
+use judge::run::{Answers, Direct, Paper, Plate, Trial, WORK};
 use std::time::{Duration, Instant};
-
-/// A placard of more tests than this is left to the direct functions.
-const WORK: u64 = 2_000_000;
 
 fn timed<T>(sum: &mut Duration, job: impl FnOnce() -> T) -> T {
     let begin = Instant::now();
     let answer = job();
     *sum += begin.elapsed();
     answer
+}
+
+/// All of a case by plain loops; none where its placard would take too long.
+fn by_paper(trial: &Trial) -> Option<(Answers, Plate)> {
+    let (paper, answers) = trial.run::<Paper>();
+    (paper.work() <= WORK).then(|| (answers, trial.placard(&paper)))
+}
+
+/// All of a case by the direct functions.
+fn by_direct(trial: &Trial) -> (Answers, Plate) {
+    let (direct, answers) = trial.run::<Direct>();
+    (answers, trial.placard(&direct))
 }
 
 fn main() {
@@ -28,8 +34,9 @@ fn main() {
     let (mut left_out, mut differing) = (0, 0);
     for index in 0..cases {
         let case = timed(&mut generate, || case(seed, index));
-        let expected = timed(&mut loops, || by_paper(&case, WORK));
-        let given = timed(&mut direct, || by_direct(&case));
+        let trial = Trial::of(&case);
+        let expected = timed(&mut loops, || by_paper(&trial));
+        let given = timed(&mut direct, || by_direct(&trial));
         match expected {
             Some(expected) if expected != given => {
                 differing += 1;

@@ -14,6 +14,11 @@
 //!   shares the types of [`paper`] and none of its functions.
 //! - [`generate`] makes cases from a seed, so that any difference found can be
 //!   found again from two numbers.
+//! - [`run`] runs a case to its end by any of them, so that all that can be seen
+//!   of it is compared as a whole.
+//!
+//! The library part knows nothing of the proved library. The programs in
+//! `src/bin` compare the two and time them; only they link it.
 //!
 //! Weights are whole grams and arms whole hundredths of a millimetre, positive
 //! aft of the datum, as in the paper's "Units".
@@ -24,3 +29,4 @@
 pub mod direct;
 pub mod generate;
 pub mod paper;
+pub mod run;

@@ -9,12 +9,10 @@ use crate::paper::{Call, Centre, Change, Counts, Journal};
 /// A placard of more tests of the limits than this takes plain loops too long.
 pub const WORK: u64 = 2_000_000;
 
-/// Numbers that are not a call's own: the buffer is too short, or holds no
-/// record.
-const SHORT: u64 = 11;
+/// The number of a buffer that holds no record.
 const FILE: u64 = 12;
 
-/// Bytes of the placard's buffer where a record is found and not made.
+/// Bytes of the longest placard.
 const LONGEST_PLACARD: usize = 9_216;
 
 /// A record lent at the front of a buffer, and the calls on it.

@@ -1,6 +1,11 @@
 -- `stored::sheet_at` meets its contract, by what stands at the place. Assumes nothing.
 use borrow.Author.Needs.{needs}
-use mathlib.Core.Path.{_∙_}
+use mathlib.Core.Path.{refl, _∙_}
+use Prim.Native.Nat.{_+_}
+use Rattle.paper.specs.File.{layoutOf}
+use Rattle.paper.specs.Refusals.{isNone}
+use Rattle.format.specs.Fields.{widths, total}
+use Rattle.entries.proofs.Places.{fields-short, fields-got}
 use Rattle.stored.proofs.Walks.{no-place, past-end, no-sheet, cut-off, a-sheet}
 use Rattle.stored.proofs.sheet_at.Statement.{statement}
 use Rattle.stored.proofs.sheet_at.Tie as tie
@@ -24,39 +29,45 @@ returns-3 c =
     let a = t .before .before .args in
     no-sheet (a .s .now) (a .at) (t .if1 .left) (u .if2 .left) (c .if3 .taken)
 
-add-sheet-from : tie.Need-add-sheet-from
-add-sheet-from c = search needs
+add-from : tie.Need-add-from
+add-from c = search needs
 
-sheet-from-requires : tie.Need-sheet-from-requires
-sheet-from-requires c κs = search needs
-
-enum-known-e : tie.Need-enum-known-e
-enum-known-e c = search needs
-
-enum-told : tie.Need-enum-told
-enum-told c = search needs
+sub-if4 : tie.Need-sub-if4
+sub-if4 c = search needs
 
 returns-4 : tie.Need-returns-4
+unfolding layoutOf widths total
 returns-4 c =
-    let f = c .before .before in
-    let v = f .before in
+    let v = c .before in
     let u = v .before .before in
     let t = u .before in
     let a = t .before .before .args in
-    cut-off (a .s .now) (a .at) (t .if1 .left) (u .if2 .left) (v .if3 .left) _ (f .sheet-from .ensures) (c .enum-told .given .1)
+    let s = a .s .now in
+    cut-off s (a .at) (t .if1 .left) (u .if2 .left) (v .if3 .left) _ (fields-short 2 s (a .at + 1) 60 refl (c .if4 .taken)) refl
+
+sheet-at-requires : tie.Need-sheet-at-requires
+sheet-at-requires c κs = search needs
+
+entry-of-requires : tie.Need-entry-of-requires
+unfolding layoutOf isNone
+entry-of-requires c κs = refl
 
 later-requires : tie.Need-later-requires
 later-requires c κs = search needs
 
 returns-5 : tie.Need-returns-5
+unfolding layoutOf widths total
 returns-5 c =
-    let k = c .before .before in
-    let f = k .before .before in
-    let v = f .before in
+    let e = c .before in
+    let w = e .before in
+    let x = w .before in
+    let v = x .before in
     let u = v .before .before in
     let t = u .before in
     let a = t .before .before .args in
-    c .later .ensures ∙ a-sheet (a .s .now) (a .at) (t .if1 .left) (u .if2 .left) (v .if3 .left) _ (f .sheet-from .ensures) _ _ (k .e .given .1)
+    let s = a .s .now in
+    let got = fields-got 2 s (a .at + 1) 60 refl (x .if4 .left) _ _ (w .sheet-at .ensures) (e .entry-of .ensures) in
+    c .later .ensures ∙ a-sheet s (a .at) (t .if1 .left) (u .if2 .left) (v .if3 .left) _ got _ _ refl
 
 pub sheet-at-spec : {M : Type 1} → statement M
 sheet-at-spec =
@@ -66,10 +77,10 @@ sheet-at-spec =
     returns-2
     shared-slice-read-if3
     returns-3
-    add-sheet-from
-    sheet-from-requires
-    enum-known-e
-    enum-told
+    add-from
+    sub-if4
     returns-4
+    sheet-at-requires
+    entry-of-requires
     later-requires
     returns-5)

@@ -10,26 +10,28 @@ use mir.ValLaws.{toZ-pos}
 use Rattle.laws.specs.Z.{zs, is-nat, is-sub}
 use Rattle.words.proofs.signed.Statement.{statement}
 use Rattle.words.proofs.signed.Tie as tie
-use Rattle.words.proofs.Signs.{low-word, high-word}
+use Rattle.words.proofs.Signs.{from-middle}
 
-cast-value : tie.Need-cast-value
-cast-value c = search needs
+wrapping-add-u32-requires : tie.Need-wrapping-add-u32-requires
+wrapping-add-u32-requires c κs = search needs
+
+cast-result : tie.Need-cast-result
+cast-result c = search needs
 
 sub-result : tie.Need-sub-result
 sub-result c =
-    let n = c .before .args .n in
-    let h : n < 2 ^ 32 = search needs in
-    rw (toZ-pos w64 n (omega arith)) (omega (arith, zs, is-sub (is-nat n) (is-nat 4294967296)))
+    let r = c .wrapping-add-u32 .result in
+    let h : r < 2 ^ 32 = search needs in
+    rw (toZ-pos w64 r (omega arith)) (omega (arith, zs, is-sub (is-nat r) (is-nat 2147483648)))
 
 returns : tie.Need-returns
-returns c = let n = c .before .args .n in toZ-pos w64 n (omega arith) ∙ low-word n (omega arith)
-
-returns-2 : tie.Need-returns-2
-returns-2 c =
+returns c =
     let n = c .before .args .n in
+    let r = c .wrapping-add-u32 .result in
     let h : n < 2 ^ 32 = search needs in
-    let less = ap (λ (z : ℤ). z -ℤ pos 4294967296) (toZ-pos w64 n (omega arith)) in
-    toZ-ofZ (sub-result c) ∙ less ∙ high-word n (omega arith) (omega arith)
+    let k : r < 2 ^ 32 = search needs in
+    let less = ap (λ (z : ℤ). z -ℤ pos 2147483648) (toZ-pos w64 r (omega arith)) in
+    toZ-ofZ (sub-result c) ∙ less ∙ from-middle n r h (c .wrapping-add-u32 .ensures)
 
 pub signed-spec : {M : Type 1} → statement M
-signed-spec = tie.close (tie.spec cast-value sub-result returns returns-2)
+signed-spec = tie.close (tie.spec wrapping-add-u32-requires cast-result sub-result returns)
