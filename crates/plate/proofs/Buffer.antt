@@ -1,19 +1,22 @@
 -- The lines in the buffer: the i-th goes into the part behind those before it, and once all are put they are the placard's
 -- text. Assumes nothing.
-use mathlib.Core.Path.{_≡_, refl, sym}
+use mathlib.Core.Path.{_≡_, refl, sym, ap, _∙_}
 use mathlib.Core.Bool.{Bool, true, false, cond}
 use mathlib.Core.List.{List, map}
-use Prim.Native.Nat.{ℕ, zero, suc, _+_, _-_, _*_, _≤_}
+use Prim.Native.Nat.{ℕ, zero, suc, _+_, _-_, _*_, _≤_, _<_}
+use native.Mathlib.Nat.{mul-le-mul-right, add-mul, one-mul}
 use native.Mathlib.Numerals.{add-one}
 use native.Mathlib.Omega.{arith}
+use lib.Arith.{digits-div, digits-mod}
 use lib.ListN.{length, take, drop, length-drop}
 use lib.Seq.{take-all}
+use Rattle.laws.specs.Division.{multiple-most}
 use Rattle.laws.specs.Written.{written, written-none, length-written, written-follows}
 use Rattle.paper.specs.declared.Sheet.{Sheet}
 use Rattle.paper.specs.Record.{Balance}
-use Rattle.paper.specs.Rows.{isBlank, below, joined, rowCount}
-use Rattle.paper.specs.Placard.{text, blankOf, blankCount}
-use Rattle.plate.specs.Numbered.{rowAt, lineAt, blanks}
+use Rattle.paper.specs.Rows.{row, isBlank, below, joined, rowCount}
+use Rattle.paper.specs.Placard.{line, text, blankOf, blankCount}
+use Rattle.plate.specs.Numbered.{rears, waters, rearAt, waterAt, rowAt, lineAt, blanks, linesTo, blanksTo}
 use Rattle.plate.proofs.Rows.{length-lines, lines-more, text-by-index, blank-more, blank-by-index}
 
 -- a part of the buffer from a place on holds a line
@@ -23,12 +26,6 @@ rest-length xs at h =
     rw (take-all (length xs - at) (drop at xs) (omega arith)) (omega arith)
 
 -- ---- the lines so far
-
-abbrev pub linesTo : Sheet → Balance → ℕ → List ℕ
-linesTo s b i = joined (map (lineAt s b) (below i))
-
-abbrev pub blanksTo : Sheet → Balance → ℕ → ℕ
-blanksTo s b i = blankOf (map (rowAt s b) (below i))
 
 module _ (s : Sheet) (b : Balance) where
   -- none yet
@@ -67,3 +64,54 @@ module _ (s : Sheet) (b : Balance) where
 
   pub all-blank : (n i : ℕ) → i ≡ rowCount s → n ≡ blanksTo s b i → n ≡ blankCount s b
   all-blank n i e f = rw (f, e, blank-by-index s b)
+
+-- ---- the rows beside one rear load
+
+-- n is how many waters there are beside each
+module _ (s : Sheet) (n : ℕ) (e : n ≡ waters s) where
+  module _ (j k : ℕ) (h : k < n) where
+    rear-of : rearAt s (j * n + k) ≡ j * s .rear .step
+    rear-of = rw (← e, digits-div j h)
+
+    water-of : waterAt s (j * n + k) ≡ k * s .water .step
+    water-of = rw (← e, digits-mod j h)
+
+    pub water-in : k * s .water .step ≤ s .water .most
+    water-in = multiple-most (s .water .most) (s .water .step) k (omega arith)
+
+    -- its row and its line, by the loads
+    pub row-in : (b : Balance) → row s b (j * s .rear .step) (k * s .water .step) ≡ rowAt s b (j * n + k)
+    row-in b = rw (rear-of, water-of)
+
+    pub line-in : (b : Balance) → line (j * s .rear .step) (k * s .water .step) (row s b (j * s .rear .step) (k * s .water .step)) ≡ lineAt s b (j * n + k)
+    line-in b = rw (rear-of, water-of)
+
+  -- all rows of a group are among the sheet's
+  pub group-room : (j : ℕ) → j < rears s → j * n + n ≤ rowCount s
+  unfolding rowCount
+  group-room j h =
+      let more : (j + 1) * n ≤ rears s * n = mul-le-mul-right n (omega arith) in
+      rw (← e) (omega (arith, add-mul j 1 n, one-mul n))
+
+pub rear-in : (s : Sheet) (j : ℕ) → j < rears s → j * s .rear .step ≤ s .rear .most
+rear-in s j h = multiple-most (s .rear .most) (s .rear .step) j h
+
+-- the first k rows from a place on, of which some are blank: as they stand in a buffer behind the lines before them
+pub record GroupTo (s : Sheet) (b : Balance) (first k blank : ℕ) (from out : List ℕ) : Type 0 where
+  pub blanks : blank + blanksTo s b first ≡ blanksTo s b (first + k)
+  pub lines : (lent : List ℕ) → length lent ≡ length from → from ≡ written lent 0 (linesTo s b first) → out ≡ written lent 0 (linesTo s b (first + k))
+
+pub group-begun : (s : Sheet) (b : Balance) (first : ℕ) (out : List ℕ) → GroupTo s b first 0 0 out out
+group-begun s b first out =
+    let e : first + 0 ≡ first = omega arith in
+    record { blanks = omega (arith, ap (blanksTo s b) e); lines = λ lent n f. f ∙ ap (λ (i : ℕ). written lent 0 (linesTo s b i)) (sym e) }
+
+-- one row more
+pub group-more : (s : Sheet) (b : Balance) (first k blank one : ℕ) (from out last : List ℕ) → GroupTo s b first k blank from out → 36 * (first + k) ≤ length from → one ≡ blanks (rowAt s b (first + k)) → last ≡ written out (36 * (first + k)) (lineAt s b (first + k)) → GroupTo s b first (k + 1) (blank + one) from last
+group-more s b first k blank one from out last g h o l =
+    let i = first + k in
+    let e : i + 1 ≡ first + (k + 1) = omega arith in
+    record {
+      blanks = let n = one-blank s b (blanksTo s b i) one i refl o in omega (arith, g .blanks, n ∙ ap (blanksTo s b) e);
+      lines = λ lent n f. one-put s b lent out last i (omega arith) (g .lines lent n f) l ∙ ap (λ (m : ℕ). written lent 0 (linesTo s b m)) e;
+    }

@@ -4,26 +4,30 @@ use judge::Standing;
 use paper::Placard;
 use paper::Row;
 use paper::Sheet;
+use planes::HalfPlane;
+use planes::LINES;
 use record::Record;
 use sheet::InForce;
 ghost use mathlib.Core.Path.{_≡_};
 ghost use mathlib.Core.List.{List};
 ghost use mathlib.Core.Option.{some};
-ghost use Prim.Native.Nat.{_*_, _≤_, _<_};
+ghost use Prim.Native.Nat.{ℕ, _+_, _*_, _≤_, _<_};
 ghost use lib.ListN.{length};
+ghost use Rattle.laws.specs.Lists.{Each};
 ghost use Rattle.laws.specs.Written.{written};
 ghost use Rattle.paper.specs.declared.Sheet.{Sheet};
 ghost use Rattle.paper.specs.declared.Entry.{Entry};
-ghost use Rattle.paper.specs.Record.{balanceOf, sheetOf};
-ghost use Rattle.paper.specs.Rows.{rowCount};
-ghost use Rattle.paper.specs.Placard.{text, lineLength, blankCount};
+ghost use Rattle.paper.specs.Record.{Balance as Plain, balanceOf, sheetOf};
+ghost use Rattle.paper.specs.Rows.{keepsAt, row, rowCount};
+ghost use Rattle.paper.specs.Placard.{line, text, lineLength, blankCount};
 ghost use Rattle.paper.specs.Refusals.{firstNumber, sheetFaults};
 ghost use Rattle.paper.specs.Answers.{placardAnswer};
 ghost use Rattle.sheet.specs.InForce.{found};
 ghost use Rattle.balance.specs.Balance.{plain, Bounded};
 ghost use Rattle.judge.specs.Standing.{plainly, Sound};
 ghost use Rattle.record.specs.Held.{slotted, heldBy};
-ghost use Rattle.plate.specs.Numbered.{waters, rowAt, lineAt, blanks};
+ghost use Rattle.planes.specs.Plane.{allHold, Small};
+ghost use Rattle.plate.specs.Numbered.{rears, waters as Numbered·waters, blanks, linesTo, blanksTo};
 
 
 // The longest placard: 256 lines.
@@ -58,30 +62,46 @@ fn blank(x: Row) -> usize
     }
 }
 
-// The line of the i-th row, behind the lines before it.
-fn put_row(s: Sheet, b: Balance, i: usize, out: &mut [u8]) -> usize
-    requires { ⌜ (firstNumber (sheetFaults s) ≡ 0) × Bounded 4096 b × (i < rowCount s) × (lineLength * rowCount s ≤ length (now out)) ⌝ }
-    ensures { λ n. ⌜ (n ≡ blanks (rowAt s (plain b) i)) × (n ≤ 1) × (now (out .exit) ≡ written (now (out .entry)) (lineLength * i) (lineAt s (plain b) i)) ⌝ }
+// The line of a row, as the i-th: behind the lines before it.
+fn put_row(s: Sheet, limits: [HalfPlane; LINES], rear: u64, water: u64, i: usize, out: &mut [u8]) -> usize
+    requires { ⌜ (firstNumber (sheetFaults s) ≡ 0) × Each Small limits × (water ≤ 2000000) × (lineLength * (i + 1) ≤ length (now out)) ⌝ }
+    ensures { λ n. ⌜ (n ≤ 1) × ((b : Plain) → ((p v : ℕ) → keepsAt s b rear p v ≡ allHold limits p v) → (n ≡ blanks (row s b rear water)) × (now (out .exit) ≡ written (now (out .entry)) (lineLength * i) (line rear water (row s b rear water)))) ⌝ }
 {
-    let waters = sheet::loads(s.water);
-    let n = i as u64;
-    let rear = n / waters * s.rear.step;
-    let water = n % waters * s.water.step;
-    let x = row::row(s, b, rear, water);
+    let x = row::row(s, limits, water);
     line::put_line(&mut out[LINE * i..], rear, water, x);
     blank(x)
 }
 
+// The lines of the rows beside the j-th rear load, which have their limits in common.
+fn put_group(s: Sheet, b: Balance, j: usize, waters: usize, out: &mut [u8]) -> usize
+    requires { ⌜ (firstNumber (sheetFaults s) ≡ 0) × Bounded 4096 b × (waters ≡ Numbered·waters s) × (j < rears s) × (lineLength * rowCount s ≤ length (now out)) ⌝ }
+    ensures { λ n. ⌜ (n ≤ waters) × (n + blanksTo s (plain b) (j * waters) ≡ blanksTo s (plain b) (j * waters + waters)) × (length (now (out .exit)) ≡ length (now (out .entry))) × ((lent : List ℕ) → length lent ≡ length (now (out .entry)) → now (out .entry) ≡ written lent 0 (linesTo s (plain b) (j * waters)) → now (out .exit) ≡ written lent 0 (linesTo s (plain b) (j * waters + waters))) ⌝ }
+{
+    let rear = j as u64 * s.rear.step;
+    let limits = limits::limits(s, b, rear);
+    let first = j * waters;
+    let mut none = 0;
+    let mut k = 0;
+    while k < waters {
+        let water = k as u64 * s.water.step;
+        none += put_row(s, limits, rear, water, first + k, out);
+        k += 1;
+    }
+    none
+}
+
 // A line for each row, and how many of them are blank.
-fn put_rows(s: Sheet, b: Balance, rows: usize, out: &mut [u8]) -> usize
-    requires { ⌜ (firstNumber (sheetFaults s) ≡ 0) × Bounded 4096 b × (rows ≡ rowCount s) × (lineLength * rowCount s ≤ length (now out)) ⌝ }
+fn put_rows(s: Sheet, b: Balance, out: &mut [u8]) -> usize
+    requires { ⌜ (firstNumber (sheetFaults s) ≡ 0) × Bounded 4096 b × (lineLength * rowCount s ≤ length (now out)) ⌝ }
     ensures { λ n. ⌜ (n ≡ blankCount s (plain b)) × (now (out .exit) ≡ written (now (out .entry)) 0 (text s (plain b))) ⌝ }
 {
+    let rears = sheet::loads(s.rear) as usize;
+    let waters = sheet::loads(s.water) as usize;
     let mut none = 0;
-    let mut i = 0;
-    while i < rows {
-        none += put_row(s, b, i, out);
-        i += 1;
+    let mut j = 0;
+    while j < rears {
+        none += put_group(s, b, j, waters, out);
+        j += 1;
     }
     none
 }
@@ -123,7 +143,7 @@ pub fn answer(standing: Standing, sheet: InForce, out: &mut [u8]) -> Placard
     if out.len() < bytes {
         return refused(11);
     }
-    let blank = put_rows(s, b, rows, out);
+    let blank = put_rows(s, b, out);
     Placard {
         number: 0,
         bytes,

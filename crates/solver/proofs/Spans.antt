@@ -3,7 +3,7 @@ use Prim.Native.Nat.{ℕ, _+_, _*_, _/_, _%_, _≤_, _<_}
 use mathlib.Core.Path.{_≡_, sym, _∙_, ap}
 use mathlib.Core.Bool.{Bool, true, _&&_, and-assoc, and-true}
 use mathlib.Core.List.{List, []}
-use native.Mathlib.Nat.{mul-mod-left, zero-mul, add-zero, le-refl}
+use native.Mathlib.Nat.{mul-mod-left, zero-mul, add-zero, le-refl, mul-le-mul-left}
 use native.Mathlib.Omega.{arith}
 use lib.Dec.{leb, eqb}
 use lib.ListN.{length, take, getD}
@@ -36,12 +36,39 @@ part s r alpha beta gamma delta p f b =
 
 -- ---- one half-plane more
 
--- narrowed with no water and then with w, a span is narrowed with every part of the water
-pub dry-and-wet : (l : HalfPlane) (p w : ℕ) (s d r : Bool) → d ≡ (s && leb (l .gamma0 + l .delta * p) (l .alpha0 + l .beta * p)) → r ≡ (d && leb (l .gamma0 + w * l .gamma1 + l .delta * p) (l .alpha0 + w * l .alpha1 + l .beta * p)) → r ≡ (s && upTo (holds l p) w)
-unfolding holds
-dry-and-wet l p w s d r e e′ =
-    let z : holds l p 0 ≡ leb (l .gamma0 + l .delta * p) (l .alpha0 + l .beta * p) = simp (zero-mul, add-zero) in
-    e′ ∙ ap (λ (b : Bool). b && holds l p w) (e ∙ ap (λ (b : Bool). s && b) (sym z)) ∙ and-assoc s (holds l p 0) (holds l p w) ∙ ap (λ (b : Bool). s && b) (sym (ends-decide l p w))
+-- where water makes room none of it decides, where it takes room all of it
+module _ (l : HalfPlane) (p w : ℕ) where
+  empty-decides : l .gamma1 ≤ l .alpha1 → upTo (holds l p) w ≡ leb (l .gamma0 + l .delta * p) (l .alpha0 + l .beta * p)
+  unfolding holds
+  empty-decides h =
+      let z : holds l p 0 ≡ leb (l .gamma0 + l .delta * p) (l .alpha0 + l .beta * p) = simp (zero-mul, add-zero) in
+      let dry = leb (l .gamma0 + l .delta * p) (l .alpha0 + l .beta * p) in
+      let room : w * l .gamma1 ≤ w * l .alpha1 = mul-le-mul-left w h in
+      ends-decide l p w
+      ∙ ap (λ (b : Bool). b && holds l p w) z
+      ∙ same (dry && holds l p w) dry (λ e. left dry (holds l p w) e)
+      (λ e.
+      let k = leb-true (l .gamma0 + l .delta * p) (l .alpha0 + l .beta * p) e in
+      both dry (holds l p w) e (le-leb (l .gamma0 + w * l .gamma1 + l .delta * p) (l .alpha0 + w * l .alpha1 + l .beta * p) (omega arith)))
+
+  full-decides : l .alpha1 < l .gamma1 → upTo (holds l p) w ≡ holds l p w
+  unfolding holds
+  full-decides h =
+      let z : holds l p 0 ≡ leb (l .gamma0 + l .delta * p) (l .alpha0 + l .beta * p) = simp (zero-mul, add-zero) in
+      let room : w * l .alpha1 ≤ w * l .gamma1 = mul-le-mul-left w (omega arith) in
+      ends-decide l p w
+      ∙ same (holds l p 0 && holds l p w) (holds l p w) (λ e. right (holds l p 0) (holds l p w) e)
+      (λ e.
+      let k = leb-true (l .gamma0 + w * l .gamma1 + l .delta * p) (l .alpha0 + w * l .alpha1 + l .beta * p) e in
+      both (holds l p 0) (holds l p w) (z ∙ le-leb (l .gamma0 + l .delta * p) (l .alpha0 + l .beta * p) (omega arith)) e)
+
+  -- a span narrowed there is narrowed with every part of the water
+  pub by-none : (s r : Bool) → l .gamma1 ≤ l .alpha1 → r ≡ (s && leb (l .gamma0 + l .delta * p) (l .alpha0 + l .beta * p)) → r ≡ (s && upTo (holds l p) w)
+  by-none s r h e = e ∙ ap (λ (b : Bool). s && b) (sym (empty-decides h))
+
+  pub by-all : (s r : Bool) → l .alpha1 < l .gamma1 → r ≡ (s && leb (l .gamma0 + w * l .gamma1 + l .delta * p) (l .alpha0 + w * l .alpha1 + l .beta * p)) → r ≡ (s && upTo (holds l p) w)
+  unfolding holds
+  by-all s r h e = e ∙ ap (λ (b : Bool). s && b) (sym (full-decides h))
 
 -- none at first
 pub kept-none : (p w : ℕ) (b : Bool) → b ≡ (b && upTo (allHold [] p) w)

@@ -1,4 +1,5 @@
-// The front loads that keep every limit: each half-plane is solved for the load by one division at each end of the water.
+// The front loads that keep every limit: each half-plane is solved for the load by one division, at the end of the water that
+// leaves less.
 use paper::Row;
 use planes::HalfPlane;
 use planes::LINES;
@@ -55,14 +56,17 @@ fn narrow(s: Span, alpha: u64, beta: u64, gamma: u64, delta: u64) -> Span
     Span { lo: s.lo, hi: most }
 }
 
-// The part of a span whose loads keep a half-plane with every part of the water aboard: none and all of it decide.
+// The part of a span whose loads keep a half-plane with every part of the water aboard: none of it decides where water makes
+// room, else all of it.
 fn narrow_wet(s: Span, l: HalfPlane, w: u64) -> Span
     requires { ⌜ (w < 2 ^ 30) × Small l ⌝ }
     ensures { λ r. ⌜ ((p : ℕ) → within r p ≡ (within s p && upTo (holds l p) w)) ⌝ }
 {
-    let dry = narrow(s, l.alpha0, l.beta, l.gamma0, l.delta);
+    if l.gamma1 <= l.alpha1 {
+        return narrow(s, l.alpha0, l.beta, l.gamma0, l.delta);
+    }
     narrow(
-        dry,
+        s,
         l.alpha0 + w * l.alpha1,
         l.beta,
         l.gamma0 + w * l.gamma1,

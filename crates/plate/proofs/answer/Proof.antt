@@ -80,7 +80,7 @@ put-rows-requires : tie.Need-put-rows-requires
 put-rows-requires c κs =
     let n = c .before .before in
     let s = n .before in
-    (accepted s, bounded (s .before .before .before), n .row-count .ensures .0, omega (arith, n .row-count .ensures))
+    (accepted s, bounded (s .before .before .before), omega (arith, n .row-count .ensures))
 
 same-length : tie.Need-same-length
 same-length c = search needs

@@ -1,70 +1,103 @@
--- `plate::put_rows` meets its contract. The loop's invariant: the first i lines are put, and their blank rows counted.
--- Assumes nothing.
-use mathlib.Core.Path.{_≡_, ap, _∙_}
-use Prim.Native.Nat.{_-_, _≤_}
+-- `plate::put_rows` meets its contract. The loop's invariant: the rows beside the first j rear loads are put, and their blank
+-- ones counted. Assumes nothing.
+use borrow.Author.Needs.{needs}
+use mathlib.Core.Path.{_≡_, refl, sym, ap, _∙_}
+use Prim.Native.Nat.{ℕ, _+_, _*_, _-_, _≤_}
+use native.Mathlib.Nat.{add-mul, one-mul, zero-mul}
 use native.Mathlib.Omega.{arith}
 use lib.ListN.{length}
 use Rattle.laws.specs.Written.{written}
 use Rattle.paper.specs.Rows.{rowCount}
+use Rattle.sheet.proofs.Accepted.{accepted-sheet}
 use Rattle.balance.specs.Balance.{plain}
-use Rattle.plate.proofs.Buffer.{linesTo, blanksTo, none-put, none-blank, length-put, one-put, one-blank, blanks-most, all-put, all-blank}
+use Rattle.plate.specs.Numbered.{linesTo, blanksTo}
+use Rattle.plate.proofs.Buffer.{none-put, none-blank, group-room, all-put, all-blank}
 use Rattle.plate.proofs.put_rows.Statement.{statement}
 use Rattle.plate.proofs.put_rows.Tie as tie
 
 abbrev Inv-loop : tie.InvT-loop
-Inv-loop s b rows out₀ none₀ i₀ out none i = (i ≤ rows) × (none ≡ blanksTo s (plain b) i) × (out ≡ written out₀ 0 (linesTo s (plain b) i))
+Inv-loop s b out₀ rears waters none₀ j₀ out none j = 
+    (j ≤ rears) × (none ≤ j * waters) × (length out ≡ length out₀) × (none ≡ blanksTo s (plain b) (j * waters)) × (out ≡ written out₀ 0 (linesTo s (plain b) (j * waters)))
 
 abbrev μ-loop : tie.MeasureT-loop
-μ-loop s b rows out₀ none₀ i₀ out none i = rows - i
+μ-loop s b out₀ rears waters none₀ j₀ out none j = rears - j
+
+loads-requires : tie.Need-loads-requires Inv-loop μ-loop
+loads-requires c κs =
+    let a = accepted-sheet (c .before .args .s) (c .before .pre .0) in
+    (a .steps .rear .0, omega (arith, a .ranges .rear))
+
+loads-requires-2 : tie.Need-loads-requires-2 Inv-loop μ-loop
+loads-requires-2 c κs =
+    let a = accepted-sheet (c .before .before .args .s) (c .before .before .pre .0) in
+    (a .steps .water .0, omega (arith, a .ranges .water))
 
 loop-holds : tie.Need-loop-holds Inv-loop μ-loop
-loop-holds c = let a = c .before .args in (omega arith, none-blank (a .s) (plain (a .b)), none-put (a .s) (plain (a .b)) (a .out .now))
+loop-holds c =
+    let a = c .before .before .before .args in
+    let z : 0 * c .loads2 .result ≡ 0 = zero-mul (c .loads2 .result) in
+    (omega arith, omega arith, refl, none-blank (a .s) (plain (a .b)) ∙ ap (blanksTo (a .s) (plain (a .b))) (sym z), none-put (a .s) (plain (a .b)) (a .out .now) ∙ ap (λ (i : ℕ). written (a .out .now) 0 (linesTo (a .s) (plain (a .b)) i)) (sym z))
 
--- what is put leaves the buffer's length
-kept : (c : tie.At-loop Inv-loop μ-loop) → length (c .loop .out) ≡ length (c .before .before .args .out .now)
-kept c =
-    let b = c .before .before in
-    ap length (c .loop .inv .2) ∙ length-put (b .args .s) (plain (b .args .b)) (b .args .out .now) (c .loop .i) (omega (arith, b .pre .2, b .pre .3, c .loop .inv .0))
+put-group-requires : tie.Need-put-group-requires Inv-loop μ-loop
+put-group-requires c κs =
+    let i = c .before in
+    let m = i .before in
+    let l = m .before in
+    let b = l .before .before .before in
+    (b .pre .0, b .pre .1, l .loads2 .ensures .0, omega (arith, l .before .loads .ensures .0), omega (arith, b .pre .2, m .loop .inv .2))
 
-put-row-requires : tie.Need-put-row-requires Inv-loop μ-loop
-put-row-requires c κs =
-    let b = c .before .before .before .before in
-    (b .pre .0, b .pre .1, omega (arith, b .pre .2), rw (kept (c .before .before)) (b .pre .3))
+-- the rows of the next group are among the sheet's, which has few
+module _ (c : tie.In-loop Inv-loop μ-loop) where
+  room : c .before .loop .j * c .before .before .loads2 .result + c .before .before .loads2 .result ≤ rowCount (c .before .before .before .before .before .args .s)
+  room =
+      let l = c .before .before in
+      group-room (l .before .before .before .args .s) (l .loads2 .result) (l .loads2 .ensures .0) (c .before .loop .j) (omega (arith, l .before .loads .ensures .0))
+
+  few : rowCount (c .before .before .before .before .before .args .s) ≤ 256
+  few = let b = c .before .before .before .before .before in accepted-sheet (b .args .s) (b .pre .0) .steps .rows
 
 add-none : tie.Need-add-none Inv-loop μ-loop
 add-none c =
-    let l = c .before .before .before .before .before in
-    let b = l .before .before in
-    omega (arith, l .loop .inv .1, blanks-most (b .args .s) (plain (b .args .b)) (l .loop .i), c .before .before .put-row .ensures .1)
+    let p = c .before .before in
+    omega (arith, p .put-group .ensures .0, room (p .before .before), few (p .before .before))
 
-add-i : tie.Need-add-i Inv-loop μ-loop
-add-i c = omega arith
+add-j : tie.Need-add-j Inv-loop μ-loop
+add-j c = search needs
 
 loop-less : tie.Need-loop-less Inv-loop μ-loop
-loop-less c = omega arith
+loop-less c = search needs
 
 loop-again : tie.Need-loop-again Inv-loop μ-loop
 loop-again c =
     let p = c .before .before in
-    let l = p .before .before .before in
-    let b = l .before .before in
-    let s = b .args .s in
-    let w = plain (b .args .b) in (
+    let i = p .before .before in
+    let m = i .before in
+    let l = m .before in
+    let b = l .before .before .before in
+    let a = b .args in
+    let n = l .loads2 .result in
+    let e : m .loop .j * n + n ≡ (m .loop .j + 1) * n = omega (arith, add-mul (m .loop .j) 1 n, one-mul n) in (
       omega arith,
-      one-blank s w (l .loop .none) (p .put-row .result) (l .loop .i) (l .loop .inv .1) (p .put-row .ensures .0),
-      one-put s w (b .args .out .now) (l .loop .out) _ (l .loop .i) (omega (arith, b .pre .2, b .pre .3, l .loop .inv .0)) (l .loop .inv .2) (p .put-row .ensures .2),
+      omega (arith, p .put-group .ensures .0, e),
+      p .put-group .ensures .2 ∙ m .loop .inv .2,
+      omega (arith, p .put-group .ensures .1, m .loop .inv .3, ap (blanksTo (a .s) (plain (a .b))) e),
+      p .put-group .ensures .3 (a .out .now) (sym (m .loop .inv .2)) (m .loop .inv .4) ∙ ap (λ (i : ℕ). written (a .out .now) 0 (linesTo (a .s) (plain (a .b)) i)) e,
     )
 
 same-length : tie.Need-same-length Inv-loop μ-loop
-same-length c = kept (c .before)
+same-length c = c .before .loop .inv .2
 
 returns : tie.Need-returns Inv-loop μ-loop
+unfolding rowCount
 returns c =
-    let l = c .before .loop in
-    let b = c .before .before .before in
-    let e : l .i ≡ rowCount (b .args .s) = omega (arith, b .pre .2) in (
-      all-blank (b .args .s) (plain (b .args .b)) (l .none) (l .i) e (l .inv .1),
-      all-put (b .args .s) (plain (b .args .b)) (b .args .out .now) (l .out) (l .i) e (l .inv .2),
+    let m = c .before in
+    let l = m .before in
+    let b = l .before .before .before in
+    let a = b .args in
+    let all : m .loop .j ≡ l .before .loads .result = omega arith in
+    let e : m .loop .j * l .loads2 .result ≡ rowCount (a .s) = rw (all, l .before .loads .ensures .0, l .loads2 .ensures .0) in (
+      all-blank (a .s) (plain (a .b)) (m .loop .none) _ e (m .loop .inv .3),
+      all-put (a .s) (plain (a .b)) (a .out .now) (m .loop .out) _ e (m .loop .inv .4),
     )
 
 pub put-rows-spec : {M : Type 1} → statement M
@@ -73,10 +106,12 @@ put-rows-spec =
     (tie.spec
     Inv-loop
     μ-loop
+    loads-requires
+    loads-requires-2
     loop-holds
-    put-row-requires
+    put-group-requires
     add-none
-    add-i
+    add-j
     loop-less
     loop-again
     same-length

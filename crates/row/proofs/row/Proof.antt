@@ -3,29 +3,25 @@ use borrow.Author.Needs.{needs}
 use mathlib.Core.Path.{_≡_, _∙_}
 use native.Mathlib.Omega.{arith}
 use Rattle.paper.specs.Rows.{rowOf}
-use Rattle.balance.specs.Balance.{plain}
 use Rattle.planes.specs.Plane.{kept}
 use Rattle.sheet.proofs.Accepted.{accepted-sheet}
 use Rattle.row.proofs.Solved.{solved}
 use Rattle.row.proofs.row.Statement.{statement}
 use Rattle.row.proofs.row.Tie as tie
 
-limits-requires : tie.Need-limits-requires
-limits-requires c κs = search needs
-
 find-row-requires : tie.Need-find-row-requires
 find-row-requires c κs =
-    let b = c .before .before in
-    (accepted-sheet (b .args .s) (b .pre .0) .steps .front .0, omega (arith, b .pre .3), c .limits .ensures .1)
+    let b = c .before in
+    (accepted-sheet (b .args .s) (b .pre .0) .steps .front .0, omega (arith, b .pre .1), b .pre .2)
 
 -- the solver was asked for the row of the sheet's steps, the water and those half-planes
-found : (c : tie.After-find-row) → c .find-row .result ≡ rowOf (kept (c .before .before .before .args .s .front .step) (c .before .before .before .args .s .least) (c .before .before .before .args .s .front .most) (c .before .before .before .args .water) (c .before .limits .result)) (c .before .before .before .args .s .front .most)
+found : (c : tie.After-find-row) → c .find-row .result ≡ rowOf (kept (c .before .before .args .s .front .step) (c .before .before .args .s .least) (c .before .before .args .s .front .most) (c .before .before .args .water) (c .before .before .args .limits)) (c .before .before .args .s .front .most)
 found c = c .find-row .ensures
 
 returns : tie.Need-returns
-returns c =
-    let a = c .before .before .before .args in
-    found c ∙ solved (a .s) (plain (a .b)) (a .rear) (a .water) (c .before .limits .result) (c .before .limits .ensures .0)
+returns c b rear same =
+    let a = c .before .before .args in
+    found c ∙ solved (a .s) b rear (a .water) (a .limits) same
 
 pub row-spec : {M : Type 1} → statement M
-row-spec = tie.close (tie.spec limits-requires find-row-requires returns)
+row-spec = tie.close (tie.spec find-row-requires returns)

@@ -1,0 +1,366 @@
+//! Writes stored cases for a program that tries the library: what it reads, and
+//! what it must print.
+//!
+//! `cargo run --release -p judge --bin gate -- DIR`
+//!
+//! What must be printed is worked out by the paper with plain loops alone, never
+//! by the library. DIR/stdin has a line for each action, its numbers in decimal:
+//!
+//! | line | action |
+//! |---|---|
+//! | `Fresh N` | a case begins: a buffer of N bytes, all AA, and a fresh record at its front |
+//! | `weighing`, `sheet`, `change`, `undo` | the call, with its numbers as in a logbook |
+//! | `Read HEX` | reading back these bytes; none where nothing stands behind `Read ` |
+//! | `Check` | whether a record stands |
+//! | `Centre` | the centre of gravity |
+//! | `Placard N` | the placard into a buffer of N bytes, all AA |
+//!
+//! DIR/stdout has a line for each case, its answers in order: for `Fresh` and
+//! the calls their numbers; for `Check` its number and the sum of the record's
+//! buffer; for `Centre` its number and, where that is 0, total, moment and
+//! centre; for `Placard` its number, where that is 0 bytes, rows and blank rows,
+//! and always the sum of its buffer. The sum of bytes begins with 0 and is, with
+//! each byte x, sum % 1000003 * 257 + x.
+//!
+//! # Which cases
+//!
+//! The eight kinds take turns, each giving its cases in the generator's order.
+//! Most cases are short, but lists, changes, files and edges have long ones that
+//! would fill the input with a few hundred cases. So each kind may give so many
+//! cases over a usual length of text, the first that it has; further ones are
+//! left out, and the kind's next case takes the place. Left out too is a case
+//! whose placard would take plain loops too long. A number of more than eighteen
+//! digits becomes eighteen nines, which is as far out of every range.
+
+use judge::generate::case;
+use judge::paper::{Call, Centre, Change, Counts, Sheet, Weighing};
+use judge::run::{Answers, Paper, Plate, Trial};
+use std::collections::BTreeMap;
+use std::path::Path;
+use std::process::ExitCode;
+use std::{env, fs, io};
+
+const SEED: u64 = 2_026;
+
+/// Kinds of the generator, which take turns over its indices.
+const KINDS: usize = 8;
+
+/// Cases of each kind.
+const CASES: usize = 320;
+
+/// Bytes of text that a case usually has, and how many cases of a kind may have
+/// more.
+const USUAL_TEXT: usize = 700;
+const LONG_CASES: usize = 20;
+
+/// Most bytes of the whole input, of a file that is read back, and of the
+/// buffers.
+const MOST_INPUT: usize = 1_000_000;
+const MOST_FILE: usize = 4_096;
+const MOST_ROOM: usize = 4_096;
+const MOST_PLATE: usize = 9_400;
+
+/// Tests of the limits that a placard may take.
+const MOST_WORK: u64 = 20_000_000;
+
+/// What the buffers are filled with.
+const FILL: u8 = 0xaa;
+
+// ---- Input ----
+
+/// The greatest number of eighteen digits.
+const EIGHTEEN_NINES: u64 = 999_999_999_999_999_999;
+
+fn cut(number: u64) -> u64 {
+    number.min(EIGHTEEN_NINES)
+}
+
+fn cut_signed(number: i64) -> i64 {
+    let most = EIGHTEEN_NINES as i64;
+    number.clamp(-most, most)
+}
+
+/// The call with no number of more than eighteen digits.
+fn cut_call(call: Call) -> Call {
+    match call {
+        Call::Weigh(w) => Call::Weigh(Weighing {
+            m: cut(w.m),
+            p: cut(w.p),
+            q: cut(w.q),
+            a: cut_signed(w.a),
+            b: cut(w.b),
+            n: cut(w.n),
+        }),
+        Call::Install(s) => Call::Install(cut_sheet(s)),
+        Call::Change(change) => Call::Change(Change {
+            c: cut_signed(change.c),
+            arm: cut_signed(change.arm),
+            flag: cut(change.flag),
+        }),
+        Call::Undo | Call::Read(_) => call,
+    }
+}
+
+fn cut_sheet(s: Sheet) -> Sheet {
+    Sheet {
+        fwd: cut_signed(s.fwd),
+        aft: cut_signed(s.aft),
+        dry: cut(s.dry),
+        wet: cut(s.wet),
+        nlp: cut(s.nlp),
+        front_arm: cut_signed(s.front_arm),
+        front_least: cut(s.front_least),
+        front_most: cut(s.front_most),
+        front_step: cut(s.front_step),
+        rear_arm: cut_signed(s.rear_arm),
+        rear_most: cut(s.rear_most),
+        rear_step: cut(s.rear_step),
+        water_arm: cut_signed(s.water_arm),
+        capacity: cut(s.capacity),
+        water_step: cut(s.water_step),
+    }
+}
+
+fn sheet_line(s: &Sheet) -> String {
+    let limits = format!("{} {} {} {} {}", s.fwd, s.aft, s.dry, s.wet, s.nlp);
+    let (least, most) = (s.front_least, s.front_most);
+    let front = format!("{} {least} {most} {}", s.front_arm, s.front_step);
+    let rear = format!("{} {} {}", s.rear_arm, s.rear_most, s.rear_step);
+    let water = format!("{} {} {}", s.water_arm, s.capacity, s.water_step);
+    format!("sheet {limits} {front} {rear} {water}")
+}
+
+fn call_line(call: &Call) -> String {
+    match call {
+        Call::Weigh(w) => {
+            let Weighing { m, p, q, a, b, n } = w;
+            format!("weighing {m} {p} {q} {a} {b} {n}")
+        }
+        Call::Install(s) => sheet_line(s),
+        Call::Change(Change { c, arm, flag }) => format!("change {c} {arm} {flag}"),
+        Call::Undo => "undo".to_string(),
+        Call::Read(bytes) => {
+            let digits: String = bytes.iter().map(|byte| format!("{byte:02x}")).collect();
+            format!("Read {digits}")
+        }
+    }
+}
+
+/// The lines of a case.
+fn input(trial: &Trial) -> String {
+    let mut lines = vec![format!("Fresh {}", trial.buffer.len())];
+    lines.extend(trial.calls.iter().map(call_line));
+    lines.push("Check".to_string());
+    lines.push("Centre".to_string());
+    lines.push(format!("Placard {}\n", trial.plate.len()));
+    lines.join("\n")
+}
+
+// ---- Output ----
+
+/// The sum of bytes.
+fn sum(bytes: &[u8]) -> u64 {
+    bytes
+        .iter()
+        .fold(0, |sum, byte| sum % 1_000_003 * 257 + u64::from(*byte))
+}
+
+/// The line of answers to a case.
+fn output(answers: &Answers, plate: &Plate) -> String {
+    let mut words: Vec<String> = Vec::new();
+    let mut say = |number: u64| words.push(number.to_string());
+    answers.fresh.into_iter().for_each(&mut say);
+    answers.numbers.iter().copied().for_each(&mut say);
+    say(answers.check);
+    say(sum(&plate.record));
+    match answers.centre {
+        Ok(Centre {
+            total,
+            moment,
+            centre,
+        }) => words.push(format!("0 {total} {moment} {centre}")),
+        Err(number) => words.push(number.to_string()),
+    }
+    match plate.answer {
+        Ok(Counts { bytes, rows, blank }) => words.push(format!("0 {bytes} {rows} {blank}")),
+        Err(number) => words.push(number.to_string()),
+    }
+    words.push(format!("{}\n", sum(&plate.bytes)));
+    words.join(" ")
+}
+
+// ---- Choosing ----
+
+/// A case with its text and what was worked out for it.
+struct Stored {
+    kind: &'static str,
+    calls: Vec<Call>,
+    answers: Answers,
+    plate: Plate,
+    input: String,
+}
+
+impl Stored {
+    /// The generator's case; none where plain loops would take too long.
+    fn of(index: u64) -> Option<Stored> {
+        let case = case(SEED, index);
+        let calls: Vec<Call> = case.calls.into_iter().map(cut_call).collect();
+        let trial = Trial {
+            buffer: vec![FILL; case.room],
+            fresh: true,
+            calls: &calls,
+            plate: vec![FILL; case.plate],
+        };
+        let (paper, answers) = trial.run::<Paper>();
+        if paper.work() > MOST_WORK {
+            return None;
+        }
+        let (plate, input) = (trial.placard(&paper), input(&trial));
+        Some(Stored {
+            kind: case.kind,
+            calls,
+            answers,
+            plate,
+            input,
+        })
+    }
+
+    /// Whether the program that reads the input has room for it.
+    fn fits(&self) -> bool {
+        let record = self.plate.record.len();
+        let plate = self.plate.bytes.len();
+        record <= MOST_ROOM
+            && plate <= MOST_PLATE
+            && self.files().all(|file| file.len() <= MOST_FILE)
+    }
+
+    /// The files that are read back.
+    fn files(&self) -> impl Iterator<Item = &[u8]> {
+        self.calls.iter().filter_map(|call| match call {
+            Call::Read(bytes) => Some(bytes.as_slice()),
+            _ => None,
+        })
+    }
+}
+
+/// The cases of one kind in turn.
+struct Kind {
+    /// The index of the next case.
+    index: u64,
+    /// How many more may be long.
+    long: usize,
+}
+
+impl Kind {
+    /// The next case that is kept.
+    fn next(&mut self) -> Stored {
+        loop {
+            let stored = Stored::of(self.index).filter(Stored::fits);
+            self.index += KINDS as u64;
+            match stored {
+                Some(stored) if stored.input.len() <= USUAL_TEXT => return stored,
+                Some(stored) if self.long > 0 => {
+                    self.long -= 1;
+                    return stored;
+                }
+                _ => {}
+            }
+        }
+    }
+}
+
+/// All stored cases, the kinds taking turns.
+fn choose() -> Vec<Stored> {
+    let mut kinds: [Kind; KINDS] = std::array::from_fn(|kind| Kind {
+        index: kind as u64,
+        long: LONG_CASES,
+    });
+    (0..CASES * KINDS)
+        .map(|turn| kinds[turn % KINDS].next())
+        .collect()
+}
+
+// ---- Telling ----
+
+/// The entries of a full record, and where a file has its count.
+const FULL: u8 = 64;
+const COUNT: usize = 5;
+
+/// How many there are of each kind and number, and of long ones.
+#[derive(Default)]
+struct Summary {
+    kinds: BTreeMap<&'static str, usize>,
+    /// Numbers of calls, checks, centres and placards.
+    numbers: [[usize; 4]; 13],
+    /// Cases of 60 calls and more.
+    many_calls: usize,
+    /// Full records read back.
+    full_files: usize,
+}
+
+impl Summary {
+    fn add(&mut self, stored: &Stored) {
+        let Stored { answers, plate, .. } = stored;
+        *self.kinds.entry(stored.kind).or_default() += 1;
+        for number in answers.fresh.iter().chain(&answers.numbers) {
+            self.numbers[*number as usize][0] += 1;
+        }
+        self.numbers[answers.check as usize][1] += 1;
+        self.numbers[answers.centre.err().unwrap_or(0) as usize][2] += 1;
+        self.numbers[plate.answer.err().unwrap_or(0) as usize][3] += 1;
+        self.many_calls += usize::from(stored.calls.len() >= 60);
+        let accepted = stored.calls.iter().zip(&answers.numbers);
+        self.full_files += accepted
+            .filter(|(call, number)| match call {
+                Call::Read(file) => **number == 0 && file[COUNT] == FULL,
+                _ => false,
+            })
+            .count();
+    }
+
+    fn print(&self) {
+        for (kind, cases) in &self.kinds {
+            println!("{kind:10} {cases:6} cases");
+        }
+        println!("cases of 60 calls and more: {}", self.many_calls);
+        println!("full records read back: {}", self.full_files);
+        println!("number    calls   checks  centres placards");
+        for (number, [calls, checks, centres, placards]) in self.numbers.iter().enumerate() {
+            println!("{number:6} {calls:8} {checks:8} {centres:8} {placards:8}");
+        }
+    }
+}
+
+/// Writes both files and tells what is in them.
+fn write(folder: &Path) -> io::Result<()> {
+    let (mut input, mut expected) = (String::new(), String::new());
+    let mut summary = Summary::default();
+    for stored in choose() {
+        summary.add(&stored);
+        input.push_str(&stored.input);
+        expected.push_str(&output(&stored.answers, &stored.plate));
+    }
+    assert!(input.len() <= MOST_INPUT, "{} bytes of input", input.len());
+    fs::create_dir_all(folder)?;
+    fs::write(folder.join("stdin"), &input)?;
+    fs::write(folder.join("stdout"), &expected)?;
+    println!("stdin  {:8} bytes", input.len());
+    println!("stdout {:8} bytes", expected.len());
+    summary.print();
+    Ok(())
+}
+
+fn main() -> ExitCode {
+    let arguments: Vec<_> = env::args_os().skip(1).collect();
+    let [folder] = arguments.as_slice() else {
+        eprintln!("usage: gate DIR");
+        return ExitCode::from(2);
+    };
+    match write(Path::new(folder)) {
+        Ok(()) => ExitCode::SUCCESS,
+        Err(error) => {
+            eprintln!("{}: {error}", Path::new(folder).display());
+            ExitCode::FAILURE
+        }
+    }
+}
