@@ -5,7 +5,7 @@
 
 use judge::generate::{case, Case};
 use judge::paper::Entry;
-use judge::run::{Direct, Paper, Trial};
+use judge::run::{By, Direct, Paper, Trial};
 use std::collections::BTreeMap;
 
 #[derive(Default)]
@@ -38,7 +38,7 @@ fn whole_range(paper: &Paper) -> Option<(String, String)> {
 impl Spread {
     fn add(&mut self, case: &Case) {
         let trial = Trial::of(case);
-        let (direct, answers) = trial.run::<Direct>();
+        let (direct, answers) = trial.run::<By<Direct>>();
         let plate = trial.placard(&direct);
         for number in &answers.numbers {
             self.calls[*number as usize] += 1;

@@ -4,7 +4,7 @@
 //! `cargo run --release --example timing [cases] [seed]`
 
 use judge::generate::case;
-use judge::run::{Answers, Direct, Paper, Plate, Trial, WORK};
+use judge::run::{Answers, By, Direct, Paper, Plate, Trial, WORK};
 use std::time::{Duration, Instant};
 
 fn timed<T>(sum: &mut Duration, job: impl FnOnce() -> T) -> T {
@@ -22,7 +22,7 @@ fn by_paper(trial: &Trial) -> Option<(Answers, Plate)> {
 
 /// All of a case by the direct functions.
 fn by_direct(trial: &Trial) -> (Answers, Plate) {
-    let (direct, answers) = trial.run::<Direct>();
+    let (direct, answers) = trial.run::<By<Direct>>();
     (answers, trial.placard(&direct))
 }
 

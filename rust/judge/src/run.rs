@@ -5,6 +5,7 @@
 use crate::direct;
 use crate::generate::Case;
 use crate::paper::{Call, Centre, Change, Counts, Journal};
+use std::marker::PhantomData;
 
 /// A placard of more tests of the limits than this takes plain loops too long.
 pub const WORK: u64 = 2_000_000;
@@ -18,7 +19,7 @@ const LONGEST_PLACARD: usize = 9_216;
 /// A record lent at the front of a buffer, and the calls on it.
 pub trait Lent {
     /// Takes a buffer as it is: its front may be a record's file.
-    fn found(buffer: Vec<u8>) -> Self;
+    fn found(buffer: &[u8]) -> Self;
 
     /// The whole buffer.
     fn buffer(&self) -> &[u8];
@@ -32,10 +33,11 @@ pub trait Lent {
     /// Makes a call; its number.
     fn call(&mut self, call: &Call) -> u64;
 
-    /// The empty centre of gravity.
+    /// The empty centre of gravity, or the number of its refusal.
     fn centre(&self) -> Result<Centre, u64>;
 
-    /// The placard, into the front of `out`.
+    /// The placard's counts, its lines in the front of `out`, or the number of
+    /// its refusal.
     fn placard(&self, out: &mut [u8]) -> Result<Counts, u64>;
 }
 
@@ -68,8 +70,9 @@ impl Paper {
 }
 
 impl Lent for Paper {
-    fn found(buffer: Vec<u8>) -> Paper {
-        let journal = front_file(&buffer).and_then(|file| Journal::read(file).ok());
+    fn found(buffer: &[u8]) -> Paper {
+        let journal = front_file(buffer).and_then(|file| Journal::read(file).ok());
+        let buffer = buffer.to_vec();
         Paper { journal, buffer }
     }
 
@@ -111,46 +114,135 @@ impl Lent for Paper {
     }
 }
 
-/// The first 4 + L bytes of a buffer, where it has as many.
-fn front_file(buffer: &[u8]) -> Option<&[u8]> {
+/// The first 4 + L bytes of a buffer, L being the number in the first four,
+/// where it has as many.
+pub fn front_file(buffer: &[u8]) -> Option<&[u8]> {
     let length = u32::from_be_bytes(*buffer.first_chunk()?);
     buffer.get(..4 + length as usize)
 }
 
-// ---- By the direct functions ----
+// ---- By functions on a buffer ----
 
-/// A record by the direct functions, which know the buffer alone.
-pub struct Direct {
-    buffer: Vec<u8>,
+/// The calls as functions that know the buffer alone, as [`Lent`] has them.
+pub trait Calls {
+    /// Begins a fresh record.
+    fn fresh(buffer: &mut [u8]) -> u64;
+
+    /// Whether a record stands.
+    fn check(buffer: &[u8]) -> u64;
+
+    /// Makes a call.
+    fn call(buffer: &mut [u8], call: &Call) -> u64;
+
+    /// The empty centre of gravity.
+    fn centre(buffer: &[u8]) -> Result<Centre, u64>;
+
+    /// The placard.
+    fn placard(buffer: &[u8], out: &mut [u8]) -> Result<Counts, u64>;
 }
 
-impl Lent for Direct {
-    fn found(buffer: Vec<u8>) -> Direct {
-        Direct { buffer }
+/// The direct functions.
+pub struct Direct;
+
+impl Calls for Direct {
+    fn fresh(buffer: &mut [u8]) -> u64 {
+        direct::fresh(buffer)
+    }
+
+    fn check(buffer: &[u8]) -> u64 {
+        direct::check(buffer)
+    }
+
+    fn call(buffer: &mut [u8], call: &Call) -> u64 {
+        direct::call(buffer, call)
+    }
+
+    fn centre(buffer: &[u8]) -> Result<Centre, u64> {
+        direct::centre(buffer)
+    }
+
+    fn placard(buffer: &[u8], out: &mut [u8]) -> Result<Counts, u64> {
+        direct::placard(buffer, out)
+    }
+}
+
+/// Bytes of a guard: an odd number, so that a buffer between two is at no even
+/// address.
+const GUARD: usize = 29;
+const GUARD_BYTE: u8 = 0x5c;
+
+/// A buffer between two guards, by which a write beside it is seen.
+pub struct Guarded(Vec<u8>);
+
+impl Guarded {
+    /// A copy of a buffer.
+    pub fn new(buffer: &[u8]) -> Guarded {
+        let guard = [GUARD_BYTE; GUARD];
+        Guarded([&guard, buffer, &guard].concat())
+    }
+
+    /// The buffer.
+    pub fn inside(&self) -> &[u8] {
+        &self.0[GUARD..self.0.len() - GUARD]
+    }
+
+    /// The buffer, to be written.
+    pub fn inside_mut(&mut self) -> &mut [u8] {
+        let end = self.0.len() - GUARD;
+        &mut self.0[GUARD..end]
+    }
+
+    /// Whether nothing was written beside the buffer.
+    pub fn holds(&self) -> bool {
+        let (front, rest) = self.0.split_at(GUARD);
+        let behind = &rest[rest.len() - GUARD..];
+        front.iter().chain(behind).all(|byte| *byte == GUARD_BYTE)
+    }
+}
+
+/// A record by such functions, in a guarded buffer.
+pub struct By<C> {
+    buffer: Guarded,
+    calls: PhantomData<C>,
+}
+
+impl<C> By<C> {
+    /// Whether nothing was written beside the buffer.
+    pub fn guards_hold(&self) -> bool {
+        self.buffer.holds()
+    }
+}
+
+impl<C: Calls> Lent for By<C> {
+    fn found(buffer: &[u8]) -> By<C> {
+        By {
+            buffer: Guarded::new(buffer),
+            calls: PhantomData,
+        }
     }
 
     fn buffer(&self) -> &[u8] {
-        &self.buffer
+        self.buffer.inside()
     }
 
     fn fresh(&mut self) -> u64 {
-        direct::fresh(&mut self.buffer)
+        C::fresh(self.buffer.inside_mut())
     }
 
     fn check(&self) -> u64 {
-        direct::check(&self.buffer)
+        C::check(self.buffer())
     }
 
     fn call(&mut self, call: &Call) -> u64 {
-        direct::call(&mut self.buffer, call)
+        C::call(self.buffer.inside_mut(), call)
     }
 
     fn centre(&self) -> Result<Centre, u64> {
-        direct::centre(&self.buffer)
+        C::centre(self.buffer())
     }
 
     fn placard(&self, out: &mut [u8]) -> Result<Counts, u64> {
-        direct::placard(&self.buffer, out)
+        C::placard(self.buffer(), out)
     }
 }
 
@@ -239,7 +331,7 @@ impl Trial<'_> {
 
     /// Makes the calls; the record in the end, and all that was seen.
     pub fn run<L: Lent>(&self) -> (L, Answers) {
-        let mut lent = L::found(self.buffer.clone());
+        let mut lent = L::found(&self.buffer);
         let fresh = self.fresh.then(|| lent.fresh());
         let mut numbers = Vec::with_capacity(self.calls.len());
         let mut buffers = vec![lent.buffer().to_vec()];

@@ -1,7 +1,7 @@
 //! The direct functions against the paper on generated cases.
 
 use judge::generate::{case, Case};
-use judge::run::{Answers, Direct, Paper, Plate, Trial, WORK};
+use judge::run::{Answers, By, Direct, Paper, Plate, Trial, WORK};
 
 const CASES: u64 = 20_000;
 const SEED: u64 = 1;
@@ -24,7 +24,7 @@ impl Numbers {
 /// where plain loops would take too long.
 fn same(trial: &Trial, case: &Case) -> (Answers, Option<Plate>) {
     let (paper, expected) = trial.run::<Paper>();
-    let (direct, given) = trial.run::<Direct>();
+    let (direct, given) = trial.run::<By<Direct>>();
     assert_eq!(given, expected, "{case:?}");
     if paper.work() > WORK {
         return (expected, None);

@@ -9,12 +9,19 @@
 //! rounds of some milliseconds, so that what else the machine does meets both;
 //! what counts is the ratio of each round.
 
+#![forbid(unsafe_code)]
+
 use judge::generate::{case, Case};
 use judge::paper::{Call, Change, Counts, Sheet, Weighing};
+use judge::run::{front_file, Calls, Direct};
+use library::Library;
 use std::env;
 use std::hint::black_box;
+use std::io::ErrorKind;
 use std::process::{Command, ExitCode};
 use std::time::{Duration, Instant};
+
+mod library;
 
 /// Rounds of a line, and how long each side takes in one of them at least. With
 /// 31 rounds median and quartiles are values that were measured.
@@ -23,69 +30,6 @@ const ROUND: Duration = Duration::from_millis(10);
 
 /// The same for the points of a straight line, of which there are many.
 const POINT_ROUND: Duration = Duration::from_millis(4);
-
-// ---- The two sides ----
-
-/// The calls that are timed.
-trait Calls {
-    fn check(record: &[u8]) -> u64;
-    fn undo(record: &mut [u8]) -> u64;
-    fn change(record: &mut [u8], change: &Change) -> u64;
-    fn placard(record: &[u8], out: &mut [u8]) -> Result<Counts, u64>;
-}
-
-/// The proved library.
-struct Library;
-
-impl Calls for Library {
-    fn check(record: &[u8]) -> u64 {
-        number(nodhulika::lent::check(record))
-    }
-
-    fn undo(record: &mut [u8]) -> u64 {
-        number(nodhulika::lent::undo(record))
-    }
-
-    fn change(record: &mut [u8], change: &Change) -> u64 {
-        let Change { c, arm, flag } = *change;
-        number(nodhulika::lent::change(
-            record,
-            &nodhulika::Change { c, arm, flag },
-        ))
-    }
-
-    fn placard(record: &[u8], out: &mut [u8]) -> Result<Counts, u64> {
-        match nodhulika::lent::placard(record, out) {
-            Ok(nodhulika::Counts { bytes, rows, blank }) => Ok(Counts { bytes, rows, blank }),
-            Err(refusal) => Err(refusal.number()),
-        }
-    }
-}
-
-fn number(answer: Result<(), nodhulika::Refusal>) -> u64 {
-    answer.err().map_or(0, nodhulika::Refusal::number)
-}
-
-/// Plain Rust.
-struct Plain;
-
-impl Calls for Plain {
-    fn check(record: &[u8]) -> u64 {
-        judge::direct::check(record)
-    }
-
-    fn undo(record: &mut [u8]) -> u64 {
-        judge::direct::call(record, &Call::Undo)
-    }
-
-    fn change(record: &mut [u8], change: &Change) -> u64 {
-        judge::direct::call(record, &Call::Change(*change))
-    }
-
-    fn placard(record: &[u8], out: &mut [u8]) -> Result<Counts, u64> {
-        judge::direct::placard(record, out)
-    }
-}
 
 // ---- The records ----
 
@@ -101,15 +45,20 @@ struct Builder {
 impl Builder {
     fn new() -> Builder {
         let mut buffer = vec![0; LONGEST_FILE];
-        assert_eq!(judge::direct::fresh(&mut buffer), 0);
+        assert_eq!(Direct::fresh(&mut buffer), 0);
         Builder { buffer, entries: 0 }
     }
 
     /// Whether the entry was accepted.
     fn add(&mut self, call: &Call) -> bool {
-        let accepted = judge::direct::call(&mut self.buffer, call) == 0;
+        let accepted = Direct::call(&mut self.buffer, call) == 0;
         self.entries += usize::from(accepted);
         accepted
+    }
+
+    /// Puts in an entry that must be accepted.
+    fn put(&mut self, call: &Call) {
+        assert!(self.add(call), "{call:?}");
     }
 
     /// Fits parts and takes each of them out again, up to so many entries. So
@@ -125,13 +74,9 @@ impl Builder {
     }
 
     /// The record's file.
-    fn file(mut self) -> Vec<u8> {
-        let [a, b, c, d, ..] = self.buffer[..] else {
-            unreachable!("a buffer has room for every file")
-        };
-        self.buffer
-            .truncate(4 + u32::from_be_bytes([a, b, c, d]) as usize);
-        self.buffer
+    fn file(self) -> Vec<u8> {
+        let file = front_file(&self.buffer).expect("the buffer has room for every file");
+        file.to_vec()
     }
 }
 
@@ -208,18 +153,19 @@ const PARTS: [Change; 5] = [
 ];
 
 /// The 62nd change, the first part taken out again, and so the 64th entry where
-/// the changes come last.
-const LAST_PART: Change = Change {
+/// the changes come last; and taking it back.
+static LAST_CALL: Call = Call::Change(Change {
     c: -PARTS[0].c,
     ..PARTS[0]
-};
+});
+static UNDO: Call = Call::Undo;
 
 /// Weighing, changes, sheet: so many entries in all.
 fn two_seater(entries: usize, rows: usize) -> Vec<u8> {
     let mut record = Builder::new();
-    record.add(&Call::Weigh(WEIGHING));
+    record.put(&Call::Weigh(WEIGHING));
     record.change(&mut PARTS.iter().cycle(), entries - 1);
-    record.add(&sheet(rows));
+    record.put(&sheet(rows));
     record.file()
 }
 
@@ -241,7 +187,7 @@ fn glider(i: usize) -> Case {
 /// those of all gliders in turn. With one entry there is no placard.
 fn fleet() -> Vec<Vec<u8>> {
     let gliders: Vec<Case> = (0..GLIDERS).map(glider).collect();
-    let part = |call: &'_ Call| match call {
+    let part = |call: &Call| match call {
         Call::Change(change) => Some(*change),
         _ => None,
     };
@@ -255,7 +201,7 @@ fn fleet() -> Vec<Vec<u8>> {
         let entries = 1 + i % 64;
         let mut record = Builder::new();
         for call in glider.calls.iter().take(entries.min(2)) {
-            record.add(call);
+            record.put(call);
         }
         record.change(&mut parts, entries);
         record.file()
@@ -327,8 +273,8 @@ impl Job {
             }
             Job::CheckChanges | Job::UndoAndChange | Job::RefusedChange => {
                 let mut record = Builder::new();
-                record.add(&Call::Weigh(WEIGHING));
-                record.add(&sheet(256));
+                record.put(&Call::Weigh(WEIGHING));
+                record.put(&sheet(256));
                 record.change(&mut PARTS.iter().cycle(), 64);
                 vec![record.file()]
             }
@@ -340,7 +286,7 @@ impl Job {
         }
     }
 
-    /// Does the job once; a sum of the numbers that are answered.
+    /// Does the job once; the sum of the numbers of refusal and the blank rows.
     fn run<C: Calls>(self, desk: &mut Desk) -> u64 {
         let Desk { records, plate } = desk;
         match self {
@@ -352,9 +298,9 @@ impl Job {
             Job::CheckSheets | Job::CheckChanges => C::check(black_box(&records[0])),
             Job::UndoAndChange => {
                 let record = black_box(&mut records[0]);
-                C::undo(record) + C::change(record, black_box(&LAST_PART))
+                C::call(record, black_box(&UNDO)) + C::call(record, black_box(&LAST_CALL))
             }
-            Job::RefusedChange => C::change(black_box(&mut records[0]), black_box(&LAST_PART)),
+            Job::RefusedChange => C::call(black_box(&mut records[0]), black_box(&LAST_CALL)),
         }
     }
 
@@ -365,24 +311,23 @@ impl Job {
         }
     }
 
-    /// Both sides must leave the same bytes and answer the same.
+    /// Both sides must answer the same, as expected, and leave the same bytes.
     fn assert_same(self) {
         let desk = self.desk();
         let (mut library, mut plain) = (desk.clone(), desk.clone());
-        let answers = [
-            self.run::<Library>(&mut library),
-            self.run::<Plain>(&mut plain),
-        ];
-        assert_eq!(answers[0], answers[1]);
-        assert!(library == plain);
-        // What is taken back was put on again.
-        assert!(library.records == desk.records);
+        let answer = self.run::<Library>(&mut library);
+        assert_eq!(answer, self.run::<Direct>(&mut plain));
+        match self {
+            Job::RefusedChange => assert_eq!(answer, 9),
+            // Some of its rows are blank, and some gliders have no sheet.
+            Job::Fleet => {}
+            _ => assert_eq!(answer, 0),
+        }
+        // What is taken back is put on again.
+        assert!(library.records == desk.records && library == plain);
         for record in &desk.records {
-            let counts = [
-                Library::placard(record, &mut library.plate),
-                Plain::placard(record, &mut plain.plate),
-            ];
-            assert_eq!(counts[0], counts[1]);
+            let counts = Library::placard(record, &mut library.plate);
+            assert_eq!(counts, Direct::placard(record, &mut plain.plate));
             assert!(library.plate == plain.plate);
         }
     }
@@ -430,14 +375,14 @@ impl Rounds {
     /// Both sides in turn; the one that begins changes too.
     fn of(job: Job) -> Rounds {
         let desk = &mut job.desk();
-        let times = times_in::<Plain>(job, desk, ROUND);
+        let times = times_in::<Direct>(job, desk, ROUND);
         let (mut library, mut plain) = (Vec::new(), Vec::new());
         for round in 0..ROUNDS {
             if round % 2 == 0 {
                 library.push(time::<Library>(job, desk, times));
-                plain.push(time::<Plain>(job, desk, times));
+                plain.push(time::<Direct>(job, desk, times));
             } else {
-                plain.push(time::<Plain>(job, desk, times));
+                plain.push(time::<Direct>(job, desk, times));
                 library.push(time::<Library>(job, desk, times));
             }
         }
@@ -452,16 +397,23 @@ impl Rounds {
 
 /// Median nanoseconds of the library for each job, the jobs taking turns.
 fn medians(jobs: &[Job]) -> Vec<f64> {
-    let mut desks: Vec<Desk> = jobs.iter().map(|job| job.desk()).collect();
-    let mut rounds = vec![Vec::new(); jobs.len()];
+    let mut points: Vec<(Job, Desk, u32, Vec<f64>)> = jobs
+        .iter()
+        .map(|job| {
+            let mut desk = job.desk();
+            let times = times_in::<Library>(*job, &mut desk, POINT_ROUND);
+            (*job, desk, times, Vec::new())
+        })
+        .collect();
     for _ in 0..ROUNDS {
-        for (i, job) in jobs.iter().enumerate() {
-            let desk = &mut desks[i];
-            let times = times_in::<Library>(*job, desk, POINT_ROUND);
-            rounds[i].push(time::<Library>(*job, desk, times));
+        for (job, desk, times, rounds) in &mut points {
+            rounds.push(time::<Library>(*job, desk, *times));
         }
     }
-    rounds.into_iter().map(median).collect()
+    points
+        .into_iter()
+        .map(|(.., rounds)| median(rounds))
+        .collect()
 }
 
 /// The straight line with the least squares of what it leaves.
@@ -489,9 +441,11 @@ impl Straight {
         self.base + self.slope * x
     }
 
-    /// How far a point is off, in per cent.
-    fn off(&self, (x, y): (f64, f64)) -> f64 {
-        100.0 * (y / self.at(x) - 1.0)
+    /// How far a point is off the line, in per cent of the line, to a tenth.
+    fn off(&self, x: f64, y: f64) -> f64 {
+        let tenths = (1_000.0 * (y / self.at(x) - 1.0)).round();
+        // Adding 0 takes the sign from a negative zero.
+        tenths / 10.0 + 0.0
     }
 }
 
@@ -510,6 +464,11 @@ fn grouped(number: f64) -> String {
     text
 }
 
+/// Prints a line of a table.
+fn print_cells<const N: usize>(cells: [String; N]) {
+    println!("| {} |", cells.join(" | "));
+}
+
 fn print_lines() {
     println!("| | library, ns | plain Rust, ns | ratio | quartiles | extremes |");
     println!("|---|---:|---:|---:|---:|---:|");
@@ -518,36 +477,45 @@ fn print_lines() {
         let rounds = Rounds::of(job);
         let [least, lower, ratio, upper, greatest] = spread(rounds.ratios());
         let calls = f64::from(job.calls());
-        let library = grouped(median(rounds.library) / calls);
-        let plain = grouped(median(rounds.plain) / calls);
-        println!(
-            "| {name} | {library} | {plain} | {ratio:.2} | {lower:.2} to {upper:.2} | {least:.2} to {greatest:.2} |"
-        );
+        print_cells([
+            name.to_string(),
+            grouped(median(rounds.library) / calls),
+            grouped(median(rounds.plain) / calls),
+            format!("{ratio:.2}"),
+            format!("{lower:.2} to {upper:.2}"),
+            format!("{least:.2} to {greatest:.2}"),
+        ]);
     }
 }
 
-/// What the fleet is like, for the line under the table.
+/// What the fleet is like.
 fn print_fleet() {
     let Desk { records, mut plate } = Job::Fleet.desk();
     let entries: u64 = records.iter().map(|record| u64::from(record[5])).sum();
     let counts: Vec<Counts> = records
         .iter()
-        .filter_map(|record| Plain::placard(record, &mut plate).ok())
+        .filter_map(|record| Direct::placard(record, &mut plate).ok())
         .collect();
     let rows: Vec<f64> = counts.iter().map(|counts| counts.rows as f64).collect();
-    let all: usize = counts.iter().map(|counts| counts.rows).sum();
+    let all: f64 = rows.iter().sum();
     let blank: usize = counts.iter().map(|counts| counts.blank).sum();
     let [_, _, median, upper, most] = spread(rows);
     println!(
-        "\nThe gliders of line d have {} entries in all. {} of them have a placard, with {} rows in all, {} of them blank; half have at most {median} rows, three quarters at most {upper}, the largest {most}.",
-        grouped(entries as f64),
-        grouped(counts.len() as f64),
-        grouped(all as f64),
-        grouped(blank as f64),
+        "\nThe gliders of line d have {} entries.",
+        grouped(entries as f64)
+    );
+    println!("{} of them have a placard,", grouped(counts.len() as f64));
+    println!(
+        "with {} rows, {} of them blank;",
+        grouped(all),
+        grouped(blank as f64)
+    );
+    println!(
+        "half have at most {median} rows, three quarters at most {upper}, the longest {most}."
     );
 }
 
-/// The library's cost by one size of its placards.
+/// The cost of the library's placards by their size.
 fn print_straight(name: &str, one: &str, sizes: &[usize], job: impl Fn(usize) -> Job) {
     let jobs: Vec<Job> = sizes.iter().map(|size| job(*size)).collect();
     let sizes = sizes.iter().map(|size| *size as f64);
@@ -557,37 +525,37 @@ fn print_straight(name: &str, one: &str, sizes: &[usize], job: impl Fn(usize) ->
     println!("|---:|---:|---:|---:|");
     let mut most: f64 = 0.0;
     for (x, y) in points {
-        let off = line.off((x, y));
+        let off = line.off(x, y);
         most = most.max(off.abs());
-        println!(
-            "| {x} | {} | {} | {off:+.1} % |",
+        print_cells([
+            x.to_string(),
             grouped(y),
-            grouped(line.at(x))
-        );
+            grouped(line.at(x)),
+            format!("{off:+.1} %"),
+        ]);
     }
-    println!(
-        "\n{:.1} ns {one} and {} ns besides; at most {most:.1} % off the straight line.",
-        line.slope,
-        grouped(line.base)
-    );
+    let Straight { base, slope } = line;
+    println!("\n{slope:.1} ns {one} and {} ns besides;", grouped(base));
+    println!("at most {most:.1} % off the straight line.");
 }
 
 fn print_times() {
+    let round = ROUND.as_millis();
+    println!("{ROUNDS} rounds, in which each side takes {round} ms or more.");
+    println!("Times are medians, ratios those of the rounds.\n");
     print_lines();
     print_fleet();
-    println!("\ne. The cost of the library's placard by rows, at 64 entries:");
+    println!("\ne. The library's placard by rows, at 64 entries:");
     let rows = [1, 32, 64, 96, 128, 160, 192, 224, 256];
-    let entries = 64;
     print_straight("rows", "a row", &rows, |rows| Job::Placard {
-        entries,
+        entries: 64,
         rows,
     });
     println!("\nand by entries, at 16 rows:");
     let entries = [2, 8, 16, 24, 32, 40, 48, 56, 64];
-    let rows = 16;
     print_straight("entries", "an entry", &entries, |entries| Job::Placard {
         entries,
-        rows,
+        rows: 16,
     });
 }
 
@@ -628,7 +596,7 @@ fn repeat(words: &[String]) -> Option<()> {
     let desk = &mut job.desk();
     match side.as_str() {
         "library" => job.repeat::<Library>(desk, times),
-        "plain" => job.repeat::<Plain>(desk, times),
+        "plain" => job.repeat::<Direct>(desk, times),
         _ => return None,
     }
     Some(())
@@ -642,7 +610,10 @@ fn instructions_of_run(job: usize, side: &str, times: u32) -> Result<f64, String
         .arg(program)
         .args([REPEAT, &job.to_string(), side, &times.to_string()])
         .output()
-        .map_err(|error| format!("valgrind cannot be run, so nothing is counted: {error}"))?;
+        .map_err(|error| match error.kind() {
+            ErrorKind::NotFound => "valgrind is not installed: nothing is counted".to_string(),
+            _ => format!("valgrind cannot be run: {error}"),
+        })?;
     let said = String::from_utf8_lossy(&output.stderr);
     said.lines()
         .find_map(|line| line.split_once("Collected :"))
@@ -658,12 +629,8 @@ fn instructions(job: usize, side: &str, times: u32) -> Result<f64, String> {
 }
 
 fn print_counts(name: &str, [library, plain]: [f64; 2]) {
-    let ratio = library / plain;
-    println!(
-        "| {name} | {} | {} | {ratio:.2} |",
-        grouped(library),
-        grouped(plain)
-    );
+    let ratio = format!("{:.2}", library / plain);
+    print_cells([name.to_string(), grouped(library), grouped(plain), ratio]);
 }
 
 fn print_instructions() -> Result<(), String> {
@@ -706,4 +673,56 @@ fn main() -> ExitCode {
         }
     }
     ExitCode::SUCCESS
+}
+
+#[cfg(test)]
+mod tests {
+    use super::*;
+
+    #[test]
+    fn both_sides_do_the_same() {
+        for job in counted_jobs() {
+            job.assert_same();
+        }
+    }
+
+    #[test]
+    fn the_placards_have_their_rows() {
+        for rows in [1, 16, 256] {
+            let record = two_seater(64, rows);
+            let counts = Direct::placard(&record, &mut [0; LONGEST_PLACARD]);
+            assert_eq!(record[5], 64);
+            assert_eq!(
+                counts.map(|counts| (counts.rows, counts.blank)),
+                Ok((rows, 0))
+            );
+        }
+        assert_eq!(Job::CheckSheets.desk().records[0].len(), LONGEST_FILE);
+    }
+
+    #[test]
+    fn the_fleet_is_spread() {
+        let entries: Vec<u8> = fleet().iter().map(|record| record[5]).collect();
+        assert_eq!(entries.len(), GLIDERS);
+        assert!((1..=64).all(|count| entries.contains(&count)));
+    }
+
+    #[test]
+    fn quartiles_and_median_of_31() {
+        let values = (0..31).rev().map(f64::from).collect();
+        assert_eq!(spread(values), [0.0, 7.0, 15.0, 23.0, 30.0]);
+    }
+
+    #[test]
+    fn a_straight_line_through_points_on_it() {
+        let line = Straight::through(&[(1.0, 5.0), (2.0, 8.0), (3.0, 11.0)]);
+        assert_eq!((line.base, line.slope), (2.0, 3.0));
+        assert_eq!(line.off(10.0, 40.0), 25.0);
+    }
+
+    #[test]
+    fn numbers_with_commas() {
+        let numbers = [0.4, 999.5, 12_345.0, 1_234_567.0];
+        assert_eq!(numbers.map(grouped), ["0", "1,000", "12,345", "1,234,567"]);
+    }
 }

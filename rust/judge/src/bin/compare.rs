@@ -9,149 +9,22 @@
 //! cases read back, good and damaged, are also lent as a record's buffer. A
 //! difference is printed with all of its case and ends the program with 1.
 
-use guarded::Guarded;
+#![deny(unsafe_code)]
+
 use judge::generate::{case, Case};
-use judge::run::{Answers, Direct, Lent, Paper, Plate, Trial, WORK};
+use judge::run::{Answers, By, Direct, Guarded, Lent, Paper, Plate, Trial, WORK};
 use library::Library;
 use std::fmt::{self, Display, Formatter};
+use std::panic::catch_unwind;
 use std::process::ExitCode;
 
-/// Bytes with others on either side, so that a write beside them is seen.
-mod guarded {
-    /// An odd number, so that what stands between is at no even address.
-    const GUARD: usize = 29;
-    const BYTE: u8 = 0x5c;
-
-    /// A buffer between two guards.
-    pub struct Guarded(Vec<u8>);
-
-    impl Guarded {
-        /// A copy of a buffer, between guards.
-        pub fn new(buffer: &[u8]) -> Guarded {
-            Guarded([&[BYTE; GUARD], buffer, &[BYTE; GUARD]].concat())
-        }
-
-        /// The buffer.
-        pub fn inside(&self) -> &[u8] {
-            &self.0[GUARD..self.0.len() - GUARD]
-        }
-
-        /// The buffer, to be written.
-        pub fn inside_mut(&mut self) -> &mut [u8] {
-            let end = self.0.len() - GUARD;
-            &mut self.0[GUARD..end]
-        }
-
-        /// Whether nothing was written beside the buffer.
-        pub fn holds(&self) -> bool {
-            let (front, rest) = self.0.split_at(GUARD);
-            let behind = &rest[rest.len() - GUARD..];
-            front.iter().chain(behind).all(|byte| *byte == BYTE)
-        }
-    }
-}
-
-/// The library by its safe calls.
-mod library {
-    use crate::guarded::Guarded;
-    use judge::paper::{Call, Centre, Change, Counts, Sheet, Weighing};
-    use judge::run::Lent;
-    use nodhulika::{lent, Refusal, Station};
-
-    /// A record of the library's.
-    pub struct Library {
-        buffer: Guarded,
-    }
-
-    impl Library {
-        /// Whether the library wrote nowhere beside the buffer.
-        pub fn guards_hold(&self) -> bool {
-            self.buffer.holds()
-        }
-    }
-
-    fn number(answer: Result<(), Refusal>) -> u64 {
-        answer.err().map_or(0, Refusal::number)
-    }
-
-    fn weighing(w: &Weighing) -> nodhulika::Weighing {
-        let Weighing { m, p, q, a, b, n } = *w;
-        nodhulika::Weighing { m, p, q, a, b, n }
-    }
-
-    fn sheet(s: &Sheet) -> nodhulika::Sheet {
-        let station = |arm, most, step| Station { arm, most, step };
-        nodhulika::Sheet {
-            fwd: s.fwd,
-            aft: s.aft,
-            dry: s.dry,
-            wet: s.wet,
-            nlp: s.nlp,
-            front: station(s.front_arm, s.front_most, s.front_step),
-            front_least: s.front_least,
-            rear: station(s.rear_arm, s.rear_most, s.rear_step),
-            water: station(s.water_arm, s.capacity, s.water_step),
-        }
-    }
-
-    fn change(change: &Change) -> nodhulika::Change {
-        let Change { c, arm, flag } = *change;
-        nodhulika::Change { c, arm, flag }
-    }
-
-    impl Lent for Library {
-        fn found(buffer: Vec<u8>) -> Library {
-            let buffer = Guarded::new(&buffer);
-            Library { buffer }
-        }
-
-        fn buffer(&self) -> &[u8] {
-            self.buffer.inside()
-        }
-
-        fn fresh(&mut self) -> u64 {
-            number(lent::fresh(self.buffer.inside_mut()))
-        }
-
-        fn check(&self) -> u64 {
-            number(lent::check(self.buffer()))
-        }
-
-        fn call(&mut self, call: &Call) -> u64 {
-            let buffer = self.buffer.inside_mut();
-            number(match call {
-                Call::Weigh(w) => lent::weigh(buffer, &weighing(w)),
-                Call::Install(s) => lent::sheet(buffer, &sheet(s)),
-                Call::Change(c) => lent::change(buffer, &change(c)),
-                Call::Undo => lent::undo(buffer),
-                Call::Read(file) => lent::read(buffer, file),
-            })
-        }
-
-        fn centre(&self) -> Result<Centre, u64> {
-            let given = lent::centre(self.buffer()).map_err(Refusal::number)?;
-            Ok(Centre {
-                total: given.total,
-                moment: given.moment,
-                centre: given.centre,
-            })
-        }
-
-        fn placard(&self, out: &mut [u8]) -> Result<Counts, u64> {
-            let given = lent::placard(self.buffer(), out).map_err(Refusal::number)?;
-            Ok(Counts {
-                bytes: given.bytes,
-                rows: given.rows,
-                blank: given.blank,
-            })
-        }
-    }
-}
+mod library;
 
 /// The two calls that write an answer, with the answer's buffer in sight.
 ///
 /// The safe calls lend 24 bytes of their own and give numbers back: neither a
 /// shorter buffer nor the bytes of an answer can be tried through them.
+#[allow(unsafe_code)]
 mod raw {
     extern "C" {
         fn nodhulika_centre(
@@ -290,9 +163,9 @@ struct Outcome {
 
 impl Outcome {
     fn of(trial: &Trial) -> Outcome {
-        let (lent, library) = Side::run::<Library>("library", trial, |_| true);
+        let (lent, library) = Side::run::<By<Library>>("library", trial, |_| true);
         let (_, paper) = Side::run::<Paper>("paper", trial, |paper| paper.work() <= WORK);
-        let (_, direct) = Side::run::<Direct>("direct", trial, |_| true);
+        let (_, direct) = Side::run::<By<Direct>>("direct", trial, |_| true);
         let mut outcome = Outcome {
             library,
             paper,
@@ -323,7 +196,7 @@ impl Outcome {
     }
 
     /// The library's writes: beside a record's buffer, and to those of answers.
-    fn look_beside(&mut self, trial: &Trial, lent: &Library) {
+    fn look_beside(&mut self, trial: &Trial, lent: &By<Library>) {
         if !lent.guards_hold() {
             self.faults.push("bytes beside the record's buffer".into());
         }
@@ -483,7 +356,9 @@ fn compare(cases: u64, seed: u64) -> Result<Tally, String> {
         let mut trials = Trial::of_content(case);
         trials.push(Trial::of(case));
         for trial in &trials {
-            let outcome = &Outcome::of(trial);
+            // A number that the safe calls do not know makes them panic.
+            let outcome = &catch_unwind(|| Outcome::of(trial))
+                .map_err(|_| format!("a panic, seed {seed}, index {index}, {case:?}\n"))?;
             if !outcome.faults.is_empty() {
                 let report = Report {
                     seed,
