@@ -17,6 +17,7 @@ ghost use Prim.Native.Nat.{_<_};
 
 // The longest file and the longest placard's buffer that a case gives.
 const FILE: usize = 4096;
+
 const PLACARD: usize = 9400;
 
 // How many bytes the numbers of an answer take.
@@ -70,11 +71,7 @@ fn fresh(line: &[u8], buffer: &mut [u8]) -> usize {
 fn digit(x: u8) -> u8
     ensures { λ r. ⌜ r < 16 ⌝ }
 {
-    if x < b'a' {
-        x % 16
-    } else {
-        (x % 16 + 9) % 16
-    }
+    if x < b'a' { x % 16 } else { (x % 16 + 9) % 16 }
 }
 
 // The byte that two digits spell.

@@ -6,6 +6,7 @@ use libc::STDIN_FILENO;
 
 // The cases come in blocks of this many bytes, each of whole cases.
 const BLOCK: usize = 65536;
+
 const BLOCKS: usize = 32;
 
 // The longest buffer of a record.

@@ -37,7 +37,15 @@ pub extern "C" fn nodhulika_check(buffer: &[u8]) -> u64
 
 // A weighing.
 #[no_mangle]
-pub extern "C" fn nodhulika_weigh(buffer: &mut [u8], m: u64, p: u64, q: u64, a: i64, b: u64, n: u64) -> u64
+pub extern "C" fn nodhulika_weigh(
+    buffer: &mut [u8],
+    m: u64,
+    p: u64,
+    q: u64,
+    a: i64,
+    b: u64,
+    n: u64,
+) -> u64
     ensures { λ r. ⌜ (r, now (buffer .exit)) ≡ lentCall (journal.weigh (record { m = m; p = p; q = q; a = a; b = b; n = n })) (now (buffer .entry)) ⌝ }
 {
     lent::add(buffer, Entry::Weighing(Weighing { m, p, q, a, b, n }))
@@ -45,7 +53,24 @@ pub extern "C" fn nodhulika_weigh(buffer: &mut [u8], m: u64, p: u64, q: u64, a: 
 
 // A data sheet.
 #[no_mangle]
-pub extern "C" fn nodhulika_sheet(buffer: &mut [u8], fwd: i64, aft: i64, dry: u64, wet: u64, nlp: u64, front_arm: i64, front_least: u64, front_most: u64, front_step: u64, rear_arm: i64, rear_most: u64, rear_step: u64, water_arm: i64, water_most: u64, water_step: u64) -> u64
+pub extern "C" fn nodhulika_sheet(
+    buffer: &mut [u8],
+    fwd: i64,
+    aft: i64,
+    dry: u64,
+    wet: u64,
+    nlp: u64,
+    front_arm: i64,
+    front_least: u64,
+    front_most: u64,
+    front_step: u64,
+    rear_arm: i64,
+    rear_most: u64,
+    rear_step: u64,
+    water_arm: i64,
+    water_most: u64,
+    water_step: u64,
+) -> u64
     ensures { λ r. ⌜ (r, now (buffer .exit)) ≡ lentCall (journal.install (record { fwd = fwd; aft = aft; dry = dry; wet = wet; nlp = nlp; front = record { arm = «front_arm»; most = «front_most»; step = «front_step» }; least = «front_least»; rear = record { arm = «rear_arm»; most = «rear_most»; step = «rear_step» }; water = record { arm = «water_arm»; most = «water_most»; step = «water_step» } })) (now (buffer .entry)) ⌝ }
 {
     let front = Station {

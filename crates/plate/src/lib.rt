@@ -29,7 +29,6 @@ ghost use Rattle.record.specs.Held.{slotted, heldBy};
 ghost use Rattle.planes.specs.Plane.{allHold, Small};
 ghost use Rattle.plate.specs.Numbered.{rears, waters as Numbered·waters, blanks, linesTo, blanksTo};
 
-
 // The longest placard: 256 lines.
 pub const LONGEST: usize = 9216;
 
@@ -63,7 +62,14 @@ fn blank(x: Row) -> usize
 }
 
 // The line of a row, as the i-th: behind the lines before it.
-fn put_row(s: Sheet, limits: [HalfPlane; LINES], rear: u64, water: u64, i: usize, out: &mut [u8]) -> usize
+fn put_row(
+    s: Sheet,
+    limits: [HalfPlane; LINES],
+    rear: u64,
+    water: u64,
+    i: usize,
+    out: &mut [u8],
+) -> usize
     requires { ⌜ (firstNumber (sheetFaults s) ≡ 0) × Each Small limits × (water ≤ 2000000) × (lineLength * (i + 1) ≤ length (now out)) ⌝ }
     ensures { λ n. ⌜ (n ≤ 1) × ((b : Plain) → ((p v : ℕ) → keepsAt s b rear p v ≡ allHold limits p v) → (n ≡ blanks (row s b rear water)) × (now (out .exit) ≡ written (now (out .entry)) (lineLength * i) (line rear water (row s b rear water)))) ⌝ }
 {

@@ -100,14 +100,14 @@ module _ (s : List ℕ) (count : ℕ) (c : Contents) (w : WalkedTo s count c) wh
           fine = accepted-more es e (w .fine) (sym (number-in s es c x e) ∙ n);
           rest = one-read s count (c .count) (c .end) es (w .rest) b h e place g;
           contents =
-          record {
-            count = ap (λ (j : ℕ). j + 1) (x .count) ∙ sym (length-more es e);
-            stands = p ∙ ap (λ (o : Option Balance). after o e) (x .stands) ∙ sym (balance-more es e);
-            sound = rw (length-more es e, ← x .count) q;
-            sheet = ap (sheetAt s) k ∙ later-place s (c .end) (c .sheet) e place (omega (arith, x .end)) g ∙ ap (orElse (asSheet e)) (x .sheet) ∙ sym (sheet-more es e);
-            last = x .end ∙ ap (λ (l : List Entry). 6 + length (bytesIn l)) (sym (without-more es e));
-            end = place-here s (c .end) b e place g ∙ omega (arith, x .end, length-in es e);
-          };
+              record {
+                count = ap (λ (j : ℕ). j + 1) (x .count) ∙ sym (length-more es e);
+                stands = p ∙ ap (λ (o : Option Balance). after o e) (x .stands) ∙ sym (balance-more es e);
+                sound = rw (length-more es e, ← x .count) q;
+                sheet = ap (sheetAt s) k ∙ later-place s (c .end) (c .sheet) e place (omega (arith, x .end)) g ∙ ap (orElse (asSheet e)) (x .sheet) ∙ sym (sheet-more es e);
+                last = x .end ∙ ap (λ (l : List Entry). 6 + length (bytesIn l)) (sym (without-more es e));
+                end = place-here s (c .end) b e place g ∙ omega (arith, x .end, length-in es e);
+              };
         }
 
   -- the walk has passed all

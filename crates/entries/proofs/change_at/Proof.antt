@@ -31,22 +31,22 @@ returns c =
     let a = c .before .before .before .before .args in
     let words : _ ≡ padded (placed (a .s .now) (widths (fieldsAt 3)) (a .at)) =
     λ i. (
-      c .before .before .number-at .ensures i ∷
-      c .before .number-at2 .ensures i ∷
-      c .number-at3 .ensures i ∷
-      0 ∷
-      0 ∷
-      0 ∷
-      0 ∷
-      0 ∷
-      0 ∷
-      0 ∷
-      0 ∷
-      0 ∷
-      0 ∷
-      0 ∷
-      0 ∷
-      []
+    c .before .before .number-at .ensures i ∷
+    c .before .number-at2 .ensures i ∷
+    c .number-at3 .ensures i ∷
+    0 ∷
+    0 ∷
+    0 ∷
+    0 ∷
+    0 ∷
+    0 ∷
+    0 ∷
+    0 ∷
+    0 ∷
+    0 ∷
+    0 ∷
+    0 ∷
+    []
     ) in
     words ∙ sym (words-placed 3 (a .s .now) (a .at))
 

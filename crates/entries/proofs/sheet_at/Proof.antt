@@ -103,22 +103,22 @@ returns c =
     let a = c .before .before .before .before .before .before .before .before .before .before .before .before .before .before .before .before .args in
     let words : _ ≡ padded (placed (a .s .now) (widths (fieldsAt 2)) (a .at)) =
     λ i. (
-      c .before .before .before .before .before .before .before .before .before .before .before .before .before .before .number-at .ensures i ∷
-      c .before .before .before .before .before .before .before .before .before .before .before .before .before .number-at2 .ensures i ∷
-      c .before .before .before .before .before .before .before .before .before .before .before .before .number-at3 .ensures i ∷
-      c .before .before .before .before .before .before .before .before .before .before .before .number-at4 .ensures i ∷
-      c .before .before .before .before .before .before .before .before .before .before .number-at5 .ensures i ∷
-      c .before .before .before .before .before .before .before .before .before .number-at6 .ensures i ∷
-      c .before .before .before .before .before .before .before .before .number-at7 .ensures i ∷
-      c .before .before .before .before .before .before .before .number-at8 .ensures i ∷
-      c .before .before .before .before .before .before .number-at9 .ensures i ∷
-      c .before .before .before .before .before .number-at10 .ensures i ∷
-      c .before .before .before .before .number-at11 .ensures i ∷
-      c .before .before .before .number-at12 .ensures i ∷
-      c .before .before .number-at13 .ensures i ∷
-      c .before .number-at14 .ensures i ∷
-      c .number-at15 .ensures i ∷
-      []
+    c .before .before .before .before .before .before .before .before .before .before .before .before .before .before .number-at .ensures i ∷
+    c .before .before .before .before .before .before .before .before .before .before .before .before .before .number-at2 .ensures i ∷
+    c .before .before .before .before .before .before .before .before .before .before .before .before .number-at3 .ensures i ∷
+    c .before .before .before .before .before .before .before .before .before .before .before .number-at4 .ensures i ∷
+    c .before .before .before .before .before .before .before .before .before .before .number-at5 .ensures i ∷
+    c .before .before .before .before .before .before .before .before .before .number-at6 .ensures i ∷
+    c .before .before .before .before .before .before .before .before .number-at7 .ensures i ∷
+    c .before .before .before .before .before .before .before .number-at8 .ensures i ∷
+    c .before .before .before .before .before .before .number-at9 .ensures i ∷
+    c .before .before .before .before .before .number-at10 .ensures i ∷
+    c .before .before .before .before .number-at11 .ensures i ∷
+    c .before .before .before .number-at12 .ensures i ∷
+    c .before .before .number-at13 .ensures i ∷
+    c .before .number-at14 .ensures i ∷
+    c .number-at15 .ensures i ∷
+    []
     ) in
     words ∙ sym (words-placed 2 (a .s .now) (a .at))
 

@@ -49,22 +49,22 @@ returns c =
     let a = c .before .before .before .before .before .before .before .args in
     let words : _ ≡ padded (placed (a .s .now) (widths (fieldsAt 1)) (a .at)) =
     λ i. (
-      c .before .before .before .before .before .number-at .ensures i ∷
-      c .before .before .before .before .number-at2 .ensures i ∷
-      c .before .before .before .number-at3 .ensures i ∷
-      c .before .before .number-at4 .ensures i ∷
-      c .before .number-at5 .ensures i ∷
-      c .number-at6 .ensures i ∷
-      0 ∷
-      0 ∷
-      0 ∷
-      0 ∷
-      0 ∷
-      0 ∷
-      0 ∷
-      0 ∷
-      0 ∷
-      []
+    c .before .before .before .before .before .number-at .ensures i ∷
+    c .before .before .before .before .number-at2 .ensures i ∷
+    c .before .before .before .number-at3 .ensures i ∷
+    c .before .before .number-at4 .ensures i ∷
+    c .before .number-at5 .ensures i ∷
+    c .number-at6 .ensures i ∷
+    0 ∷
+    0 ∷
+    0 ∷
+    0 ∷
+    0 ∷
+    0 ∷
+    0 ∷
+    0 ∷
+    0 ∷
+    []
     ) in
     words ∙ sym (words-placed 1 (a .s .now) (a .at))
 

@@ -18,7 +18,7 @@ use Rattle.plate.proofs.put_group.Statement.{statement}
 use Rattle.plate.proofs.put_group.Tie as tie
 
 abbrev Inv-loop : tie.InvT-loop
-Inv-loop s j waters out₀ rear limits first none₀ k₀ out none k = 
+Inv-loop s j waters out₀ rear limits first none₀ k₀ out none k =
     (k ≤ waters) × (none ≤ k) × (length out ≡ length out₀) × ((b : Balance) → ((p v : ℕ) → keepsAt s b rear p v ≡ allHold limits p v) → GroupTo s b first k none out₀ out)
 
 abbrev μ-loop : tie.MeasureT-loop
@@ -91,10 +91,10 @@ loop-again c =
       omega (arith, p .put-row .ensures .0),
       ap length whole ∙ length-written (m .loop .out) _ _ (omega (arith, length-line (a .j * a .s .rear .step) (k * a .s .water .step) (row (a .s) (plain (a .b)) (a .j * a .s .rear .step) (k * a .s .water .step)), room b, b .pre .4, m .loop .inv .2)) ∙ m .loop .inv .2,
       λ w same.
-      group-more (a .s) w (a .j * a .waters) k (m .loop .none) (p .put-row .result) (a .out .now) (m .loop .out) _ (m .loop .inv .3 w same)
-      (omega (arith, room b, b .pre .4))
-      (put w same .0 ∙ ap blanks (row-in (a .s) (a .waters) (b .pre .2) (a .j) k (i .loop-test .taken) w))
-      (put w same .1 ∙ ap (λ x. written (m .loop .out) (36 * (a .j * a .waters + k)) x) (line-in (a .s) (a .waters) (b .pre .2) (a .j) k (i .loop-test .taken) w)),
+          group-more (a .s) w (a .j * a .waters) k (m .loop .none) (p .put-row .result) (a .out .now) (m .loop .out) _ (m .loop .inv .3 w same)
+          (omega (arith, room b, b .pre .4))
+          (put w same .0 ∙ ap blanks (row-in (a .s) (a .waters) (b .pre .2) (a .j) k (i .loop-test .taken) w))
+          (put w same .1 ∙ ap (λ x. written (m .loop .out) (36 * (a .j * a .waters + k)) x) (line-in (a .s) (a .waters) (b .pre .2) (a .j) k (i .loop-test .taken) w)),
     )
 
 same-length : tie.Need-same-length Inv-loop μ-loop

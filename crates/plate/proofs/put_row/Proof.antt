@@ -41,10 +41,10 @@ returns c =
     let a = r .before .before .args in (
       c .blank .ensures .1,
       λ b same.
-      let x = r .row .ensures b (a .rear) same in (
-        c .blank .ensures .0 ∙ ap blanks x,
-        written-part (a .out .now) (p .put-line .last .0) _ (36 * a .i) (p .put-line .ensures ∙ ap (λ y. written (take (length (a .out .now) - 36 * a .i) (drop (36 * a .i) (a .out .now))) 0 (line (a .rear) (a .water) y)) x),
-      ),
+          let x = r .row .ensures b (a .rear) same in (
+            c .blank .ensures .0 ∙ ap blanks x,
+            written-part (a .out .now) (p .put-line .last .0) _ (36 * a .i) (p .put-line .ensures ∙ ap (λ y. written (take (length (a .out .now) - 36 * a .i) (drop (36 * a .i) (a .out .now))) 0 (line (a .rear) (a .water) y)) x),
+          ),
     )
 
 pub put-row-spec : {M : Type 1} → statement M

@@ -16,7 +16,7 @@ use Rattle.plate.proofs.put_rows.Statement.{statement}
 use Rattle.plate.proofs.put_rows.Tie as tie
 
 abbrev Inv-loop : tie.InvT-loop
-Inv-loop s b out₀ rears waters none₀ j₀ out none j = 
+Inv-loop s b out₀ rears waters none₀ j₀ out none j =
     (j ≤ rears) × (none ≤ j * waters) × (length out ≡ length out₀) × (none ≡ blanksTo s (plain b) (j * waters)) × (out ≡ written out₀ 0 (linesTo s (plain b) (j * waters)))
 
 abbrev μ-loop : tie.MeasureT-loop
