@@ -13,7 +13,10 @@
 //! | `Read HEX` | reading back these bytes; none where nothing stands behind `Read ` |
 //! | `Check` | whether a record stands |
 //! | `Centre` | the centre of gravity |
-//! | `Placard N` | the placard into a buffer of N bytes, all AA |
+//! | `Placard N` | the placard into a buffer of N bytes, all AA, which ends the case |
+//!
+//! The input is one of whole cases in blocks of 65,536 bytes, filled up with
+//! empty lines: the program takes it block by block.
 //!
 //! DIR/stdout has a line for each case, its answers in order: for `Fresh` and
 //! the calls their numbers; for `Check` its number and the sum of the record's
@@ -55,9 +58,10 @@ const CASES: usize = 310;
 const USUAL_TEXT: usize = 700;
 const LONG_CASES: usize = 24;
 
-/// Most bytes of the whole input, of a file that is read back, and of the
-/// buffers.
+/// Most bytes of the whole input, of a block of it, of a file that is read back,
+/// and of the buffers.
 const MOST_INPUT: usize = 1_000_000;
+const BLOCK: usize = 65_536;
 const MOST_FILE: usize = 4_096;
 const MOST_ROOM: usize = 4_096;
 const MOST_PLATE: usize = 9_400;
@@ -233,6 +237,7 @@ impl Stored {
         let plate = self.plate.bytes.len();
         record <= MOST_ROOM
             && plate <= MOST_PLATE
+            && self.input.len() <= BLOCK
             && self.files().all(|file| file.len() <= MOST_FILE)
     }
 
@@ -333,13 +338,23 @@ impl Summary {
     }
 }
 
+/// Puts a case behind the others, in a new block where it does not fit into the
+/// last.
+fn append(input: &mut String, case: &str) {
+    let left = BLOCK - input.len() % BLOCK;
+    if left < case.len() {
+        input.push_str(&"\n".repeat(left));
+    }
+    input.push_str(case);
+}
+
 /// Writes both files and tells what is in them.
 fn write(folder: &Path) -> io::Result<()> {
     let (mut input, mut expected) = (String::new(), String::new());
     let mut summary = Summary::default();
     for stored in choose() {
         summary.add(&stored);
-        input.push_str(&stored.input);
+        append(&mut input, &stored.input);
         expected.push_str(&output(&stored.answers, &stored.plate));
     }
     assert!(input.len() <= MOST_INPUT, "{} bytes of input", input.len());
@@ -400,6 +415,16 @@ mod tests {
         let sum = sum(&plate.record);
         let line = format!("0 10 0 12 0 {sum} 0 2 -50001 -25000 8 170\n");
         assert_eq!(output(&answers, &plate), line);
+    }
+
+    #[test]
+    fn no_case_crosses_a_block() {
+        let mut input = "x".repeat(BLOCK - 3);
+        append(&mut input, "Fresh 6\n");
+        assert_eq!(input.len(), BLOCK + 8);
+        assert!(input.ends_with("x\n\n\nFresh 6\n"));
+        append(&mut input, "Check\n");
+        assert!(input.ends_with("Fresh 6\nCheck\n"));
     }
 
     #[test]
