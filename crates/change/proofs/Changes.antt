@@ -1,5 +1,5 @@
--- What is asked of a change, its tests over ℤ as tests of the two sides of its weight. Assumes nothing.
-use mathlib.Core.Path.{_≡_, sym, _∙_, ap, ap₂}
+-- What is asked of a change, and what it makes of a balance, over ℤ. Assumes nothing.
+use mathlib.Core.Path.{_≡_, refl, _∙_, ap, ap₂}
 use mathlib.Core.Bool.{Bool, true, false, not, cond, _&&_}
 use mathlib.Core.Option.{some}
 use mathlib.Core.List.{[], _∷_}
@@ -10,7 +10,7 @@ use lib.IntN.{ℤ, pos, negsuc, natAbs, _+ℤ_, _-ℤ_, _*ℤ_}
 use lib.Signed.{leZ, ltZ, _≤ℤ_}
 use borrow.Author.Tests.{leb-true, not-false, eq-eqb, ne-eqb}
 use Rattle.laws.specs.Tests.{both, left, right, left-fails, right-fails, left-passes, not-left, not-right, turned, turned-no}
-use Rattle.laws.specs.Z.{zs, Is, is-nat, is-add, is-sub, is-mul, abs-eq, goal-leZ, goal-nleZ, leZ-test}
+use Rattle.laws.specs.Z.{zs, Is, is-nat, is-int, is-add, is-sub, is-mul, abs-eq, goal-leZ, goal-nleZ, leZ-test}
 use Rattle.paper.proofs.Numbers.{no-first, no-other}
 use Rattle.paper.specs.declared.Change.{Change}
 use Rattle.paper.specs.Units.{between, isArm}
@@ -18,6 +18,14 @@ use Rattle.paper.specs.Record as paper
 use Rattle.paper.specs.Refusals.{isTotal, isNonLifting, isChange, isNone, afterwards, badChange, changeFaults, firstNumber, _when_}
 use Rattle.balance.specs.declared.Balance.{Balance}
 use Rattle.balance.specs.Balance.{plain}
+
+-- ---- a range as two orders
+
+ranged : {lo hi z : ℤ} → between lo hi z ≡ true → (lo ≤ℤ z) × (z ≤ℤ hi)
+ranged {lo} {hi} {z} e =
+    let l = left (leZ lo z) (leZ z hi) e in
+    let h = right (leZ lo z) (leZ z hi) e in
+    (omega (arith, zs), omega (arith, zs))
 
 -- ---- c and the flag in their ranges
 
@@ -59,70 +67,44 @@ module _ (x : Change) where
 
   pub c-range : isChange x ≡ true → (negsuc 1999999 ≤ℤ x .c) × (x .c ≤ℤ pos 2000000)
   unfolding isChange
-  c-range e =
-      let t = left (low && high) some′ (left (low && high && some′) flag e) in
-      let l = left low high t in
-      let h = right low high t in
-      (omega (arith, zs), omega (arith, zs))
+  c-range e = ranged (left (low && high) some′ (left (low && high && some′) flag e))
 
--- ---- what stays in its range
+-- ---- what a change makes of G and n
 
-pub stays-test : (z : ℤ) (u d x lo hi : ℕ) → Is z u d → between (pos lo) (pos hi) (pos x +ℤ z) ≡ (leb (lo + d) (x + u) && leb (x + u) (hi + d))
-stays-test z u d x lo hi i =
-    ap₂ _&&_ (leZ-test (is-nat lo) (is-add (is-nat x) i) (lo + d) (x + u) (omega arith))
-    (leZ-test (is-add (is-nat x) i) (is-nat hi) (x + u) (hi + d) (omega arith))
+-- what of c counts as non-lifting
+abbrev pub part : Change → ℤ
+part x = cond (eqb (x .flag) 1) (x .c) (pos 0)
 
--- ---- the balance afterwards, where u and d are the sides of c
+all-or-none : (t : Bool) (z : ℤ) → (negsuc 1999999 ≤ℤ z) × (z ≤ℤ pos 2000000) → (negsuc 1999999 ≤ℤ cond t z (pos 0)) × (cond t z (pos 0) ≤ℤ pos 2000000)
+all-or-none true z r = r
+all-or-none false z r = (omega (arith, zs), omega (arith, zs))
 
--- what counts as non-lifting of a side
-abbrev pub counted : Change → ℕ → ℕ
-counted x n = cond (eqb (x .flag) 1) n 0
+pub part-range : (x : Change) → isChange x ≡ true → (negsuc 1999999 ≤ℤ part x) × (part x ≤ℤ pos 2000000)
+part-range x e = all-or-none (eqb (x .flag) 1) (x .c) (c-range x e)
 
-at-most : (t : Bool) (n : ℕ) → cond t n 0 ≤ n
-at-most true n = omega arith
-at-most false n = omega arith
-
-pub counted-most : (x : Change) (n : ℕ) → counted x n ≤ n
-counted-most x n = at-most (eqb (x .flag) 1) n
-
-module _ (b : Balance) (x : Change) (u d : ℕ) (i : Is (x .c) u d) where
-  pub total-test : isTotal (paper.changed (plain b) x .total) ≡ (leb (1 + d) (b .total + u) && leb (b .total + u) (2000000 + d))
+module _ (b : Balance) (x : Change) where
+  pub total-test : (t : ℤ) → t ≡ pos (b .total) +ℤ x .c → between (pos 1) (pos 2000000) t ≡ isTotal (paper.changed (plain b) x .total)
   unfolding isTotal paper.changed
-  total-test = stays-test (x .c) u d (b .total) 1 2000000 i
+  total-test t e = ap (between (pos 1) (pos 2000000)) e
 
-  pub total-after : d ≤ b .total + u → pos (b .total + u - d) ≡ paper.changed (plain b) x .total
-  unfolding paper.changed
-  total-after h = omega (arith, zs, is-add (is-nat (b .total)) i)
-
-  gain-of : (t : Bool) → Is (cond t (x .c) (pos 0)) (cond t u 0) (cond t d 0)
-  gain-of true = i
-  gain-of false = is-nat 0
-
-  pub gain : Is (cond (eqb (x .flag) 1) (x .c) (pos 0)) (counted x u) (counted x d)
-  gain = gain-of (eqb (x .flag) 1)
-
-  pub part-test : d ≤ b .total + u → isNonLifting (paper.changed (plain b) x) ≡ (leb (0 + counted x d) (b .nonlifting + counted x u) && leb (b .nonlifting + counted x u) (b .total + u - d + counted x d))
+  pub part-test : (t n : ℤ) → t ≡ pos (b .total) +ℤ x .c → n ≡ pos (b .nonlifting) +ℤ part x → between (pos 0) t n ≡ isNonLifting (paper.changed (plain b) x)
   unfolding isNonLifting paper.changed
-  part-test h =
-      rw (← total-after h) (stays-test _ (counted x u) (counted x d) (b .nonlifting) 0 (b .total + u - d) gain)
+  part-test t n e f = ap₂ (between (pos 0)) e f
 
--- the code's new balance is the paper's, where s and t are the sides of the arm
-pub after-is : (b : Balance) (x : Change) (u d s t : ℕ) → Is (x .c) u d → Is (x .arm) s t → d ≤ b .total + u → counted x d ≤ b .nonlifting + counted x u
-    → (r : Balance) → r .total ≡ b .total + u - d → r .aft ≡ b .aft + u * s + d * t → r .fore ≡ b .fore + u * t + d * s → r .nonlifting ≡ b .nonlifting + counted x u - counted x d
-    → plain r ≡ paper.changed (plain b) x
+-- the code's new balance is the paper's
+pub after-is : (b r : Balance) (x : Change) (u d : ℕ) → pos (r .total) ≡ pos (b .total) +ℤ x .c → pos (r .nonlifting) ≡ pos (b .nonlifting) +ℤ part x
+    → x .c *ℤ x .arm ≡ pos u -ℤ pos d → r .aft ≡ b .aft + u → r .fore ≡ b .fore + d → plain r ≡ paper.changed (plain b) x
 unfolding paper.changed
-after-is b x u d s t i j g h r et ea ef en =
-    let total : pos (r .total) ≡ pos (b .total) +ℤ x .c = omega (arith, zs, is-add (is-nat (b .total)) i) in
+after-is b r x u d et en em ea ef =
     let moment : pos (r .aft) -ℤ pos (r .fore) ≡ pos (b .aft) -ℤ pos (b .fore) +ℤ x .c *ℤ x .arm =
     omega (
       arith,
       zs,
       is-sub (is-nat (r .aft)) (is-nat (r .fore)),
-      is-add (is-sub (is-nat (b .aft)) (is-nat (b .fore))) (is-mul i j),
+      is-add (is-sub (is-nat (b .aft)) (is-nat (b .fore))) (is-int (x .c *ℤ x .arm)),
+      is-sub (is-nat u) (is-nat d),
     ) in
-    let part : pos (r .nonlifting) ≡ pos (b .nonlifting) +ℤ cond (eqb (x .flag) 1) (x .c) (pos 0) =
-    omega (arith, zs, is-add (is-nat (b .nonlifting)) (gain b x u d i)) in
-    λ k. record { total = total k; moment = moment k; nonLifting = part k }
+    λ k. record { total = et k; moment = moment k; nonLifting = en k }
 
 -- ---- the number of a change behind 9, by what holds
 
@@ -179,28 +161,9 @@ module _ (b : Balance) (x : Change) where
         not-false _
         (no-first 3 (not (isNonLifting (paper.changed (plain b) x))) [] (omega arith) (no-other 6 (badChange (some (plain b)) x) _ (omega arith) later))
 
-    -- where u and d are the sides of c
-    module _ (u d : ℕ) (i : Is (x .c) u d) where
-      totals : (leb (1 + d) (b .total + u) && leb (b .total + u) (2000000 + d)) ≡ true
-      totals = sym (total-test b x u d i) ∙ total-fine
+    -- the ranges of G and n afterwards
+    pub total-range : (pos 1 ≤ℤ (pos (b .total) +ℤ x .c)) × ((pos (b .total) +ℤ x .c) ≤ℤ pos 2000000)
+    total-range = ranged (total-test b x (pos (b .total) +ℤ x .c) refl ∙ total-fine)
 
-      pub least-total : 1 + d ≤ b .total + u
-      least-total = leb-true (1 + d) (b .total + u) (left (leb (1 + d) (b .total + u)) (leb (b .total + u) (2000000 + d)) totals)
-
-      pub most-total : b .total + u ≤ 2000000 + d
-      most-total = leb-true (b .total + u) (2000000 + d) (right (leb (1 + d) (b .total + u)) (leb (b .total + u) (2000000 + d)) totals)
-
-      parts : (leb (0 + counted x d) (b .nonlifting + counted x u) && leb (b .nonlifting + counted x u) (b .total + u - d + counted x d)) ≡ true
-      parts = sym (part-test b x u d i (omega (arith, least-total))) ∙ part-fine
-
-      pub least-part : counted x d ≤ b .nonlifting + counted x u
-      least-part =
-          omega (
-            arith,
-            leb-true (0 + counted x d) (b .nonlifting + counted x u) (left (leb (0 + counted x d) (b .nonlifting + counted x u)) (leb (b .nonlifting + counted x u) (b .total + u - d + counted x d)) parts),
-          )
-
-      pub most-part : b .nonlifting + counted x u ≤ b .total + u - d + counted x d
-      most-part =
-          leb-true (b .nonlifting + counted x u) (b .total + u - d + counted x d)
-          (right (leb (0 + counted x d) (b .nonlifting + counted x u)) (leb (b .nonlifting + counted x u) (b .total + u - d + counted x d)) parts)
+    pub part-within : (pos 0 ≤ℤ (pos (b .nonlifting) +ℤ part x)) × ((pos (b .nonlifting) +ℤ part x) ≤ℤ (pos (b .total) +ℤ x .c))
+    part-within = ranged (part-test b x (pos (b .total) +ℤ x .c) (pos (b .nonlifting) +ℤ part x) refl refl ∙ part-fine)

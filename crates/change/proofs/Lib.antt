@@ -1,2 +1,3 @@
--- What the proofs share: what is asked of a change, by the sides of its weight.
+-- What the proofs share: what is asked of a change, and how large a moment is.
 pub mod Changes
+pub mod Products

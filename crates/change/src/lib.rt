@@ -3,13 +3,15 @@ use balance::Balance;
 use laws::Sides;
 use paper::Arm;
 use paper::Change;
-use paper::Weight;
 ghost use mathlib.Core.Path.{_≡_};
-ghost use mathlib.Core.Bool.{cond, _&&_};
+ghost use mathlib.Core.Bool.{cond};
 ghost use mathlib.Core.Option.{some};
 ghost use Prim.Native.Nat.{_+_, _^_, _≤_, _<_};
-ghost use lib.Dec.{leb, eqb};
+ghost use lib.Dec.{eqb};
+ghost use lib.IntN.{pos, negsuc, _+ℤ_, _-ℤ_, _*ℤ_};
+ghost use lib.Signed.{_≤ℤ_};
 ghost use Rattle.paper.specs.Record as paper;
+ghost use Rattle.paper.specs.Units.{between};
 ghost use Rattle.paper.specs.Refusals.{isChange, changeFaults, firstNumber};
 ghost use Rattle.balance.specs.Balance.{twoProducts, plain, Ranged};
 
@@ -29,25 +31,47 @@ fn in_range(x: Change) -> bool
     x.flag <= 1
 }
 
-// Whether `x` and a gain make something from `least` to `most`.
-fn stays(x: u64, gain: Sides, least: u64, most: u64) -> bool
-    requires { ⌜ (x < 2 ^ 32) × (gain .up < 2 ^ 32) × (gain .down < 2 ^ 32) × (least < 2 ^ 32) × (most < 2 ^ 32) ⌝ }
-    ensures { λ r. ⌜ r ≡ (leb (least + gain .down) (x + gain .up) && leb (x + gain .up) (most + gain .down)) ⌝ }
+// Whether `z` lies from `least` to `most`.
+fn within(least: i64, most: i64, z: i64) -> bool
+    ensures { λ r. ⌜ r ≡ between least most z ⌝ }
 {
-    if x + gain.up < least + gain.down {
-        return false;
-    }
-    x + gain.up <= most + gain.down
+    least <= z && z <= most
 }
 
 // What of a change counts as non-lifting.
-fn nonlifting_of(x: Change, c: Sides) -> Sides
-    ensures { λ r. ⌜ (r .up ≡ cond (eqb (x .flag) 1) (c .up) 0) × (r .down ≡ cond (eqb (x .flag) 1) (c .down) 0) ⌝ }
+fn counted(x: Change) -> i64
+    ensures { λ r. ⌜ r ≡ cond (eqb (x .flag) 1) (x .c) (pos 0) ⌝ }
 {
     if x.flag == 1 {
-        return c;
+        return x.c;
     }
-    Sides { up: 0, down: 0 }
+    0
+}
+
+// A weight and what a change adds to it.
+fn gained(x: u64, gain: i64) -> i64
+    requires { ⌜ (x ≤ 2000000) × (negsuc 1999999 ≤ℤ gain) × (gain ≤ℤ pos 2000000) ⌝ }
+    ensures { λ r. ⌜ r ≡ pos x +ℤ gain ⌝ }
+{
+    x as i64 + gain
+}
+
+// The two sides of c·arm.
+fn moment_of(c: i64, arm: i64) -> Sides
+    requires { ⌜ (negsuc 1999999 ≤ℤ c) × (c ≤ℤ pos 2000000) × (negsuc 1999999 ≤ℤ arm) × (arm ≤ℤ pos 2000000) ⌝ }
+    ensures { λ r. ⌜ (c *ℤ arm ≡ pos (r .up) -ℤ pos (r .down)) × (r .up ≤ twoProducts) × (r .down ≤ twoProducts) ⌝ }
+{
+    let m = c * arm;
+    if m < 0 {
+        return Sides {
+            up: 0,
+            down: laws::size(0 - m),
+        };
+    }
+    Sides {
+        up: laws::size(m),
+        down: 0,
+    }
 }
 
 // The number of refusal behind 9 and 7.
@@ -61,34 +85,29 @@ pub fn number(b: Balance, x: Change) -> u64
     if !in_range(x) {
         return 6;
     }
-    let c = laws::split(x.c);
-    if !stays(b.total, c, 1, Weight::MOST) {
+    let total = gained(b.total, x.c);
+    if !within(1, 2_000_000, total) {
         return 6;
     }
-    if !stays(
-        b.nonlifting,
-        nonlifting_of(x, c),
-        0,
-        b.total + c.up - c.down,
-    ) {
+    if !within(0, total, gained(b.nonlifting, counted(x))) {
         return 3;
     }
     0
 }
 
-// G, M and n afterwards: c·arm goes to the side that the two signs say.
+// G, M and n afterwards: c·arm goes to the side that its sign says.
 pub fn changed(b: Balance, x: Change) -> Balance
     requires { ⌜ Ranged b × (b .aft < 2 ^ 59) × (b .fore < 2 ^ 59) ⌝ }
     requires { ⌜ firstNumber (changeFaults (some (plain b)) x) ≡ 0 ⌝ }
     ensures { λ r. ⌜ (plain r ≡ paper.changed (plain b) x) × Ranged r × (r .aft ≤ b .aft + twoProducts) × (r .fore ≤ b .fore + twoProducts) ⌝ }
 {
-    let c = laws::split(x.c);
-    let arm = laws::split(x.arm);
-    let n = nonlifting_of(x, c);
+    let total = gained(b.total, x.c);
+    let part = gained(b.nonlifting, counted(x));
+    let m = moment_of(x.c, x.arm);
     Balance {
-        total: b.total + c.up - c.down,
-        aft: b.aft + laws::times(c.up, arm.up) + laws::times(c.down, arm.down),
-        fore: b.fore + laws::times(c.up, arm.down) + laws::times(c.down, arm.up),
-        nonlifting: b.nonlifting + n.up - n.down,
+        total: laws::size(total),
+        aft: b.aft + m.up,
+        fore: b.fore + m.down,
+        nonlifting: laws::size(part),
     }
 }

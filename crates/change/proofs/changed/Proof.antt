@@ -1,129 +1,97 @@
--- `change::changed` meets its contract: the sides of c and of the arm give each sum by one law. Assumes nothing.
+-- `change::changed` meets its contract: G, n and the two sides of the moment each by one sum. Assumes nothing.
 use borrow.Author.Needs.{needs}
-use mathlib.Core.Path.{refl}
+use mathlib.Core.Path.{_≡_, refl}
+use mathlib.Core.Bool.{true}
 use Prim.Native.Nat.{_+_, _-_}
 use native.Mathlib.Omega.{arith}
+use lib.IntN.{pos, _+ℤ_, _-ℤ_, _*ℤ_}
 use mir.Facts.{toZ-ofZ}
-use Rattle.laws.specs.Z.{SidesOf, is-sides}
+use Rattle.laws.specs.Z.{zs}
 use Rattle.paper.proofs.Units.{arm-range}
+use Rattle.paper.specs.Refusals.{isChange}
 use Rattle.balance.specs.declared.Balance.{Balance}
-use Rattle.change.proofs.Changes.{c-range, counted-most, arm-fine, change-fine, least-total, most-total, least-part, most-part, after-is}
+use Rattle.change.proofs.Changes.{part, c-range, part-range, arm-fine, change-fine, total-range, part-within, after-is}
 use Rattle.change.proofs.changed.Statement.{statement}
 use Rattle.change.proofs.changed.Tie as tie
 
-split-requires : tie.Need-split-requires
-split-requires c κs =
-    let s = c .before in
-    rw (toZ-ofZ (record { sfits = c .struct-told .given .0 .1 })) (c-range (s .args .x) (change-fine (s .args .b) (s .args .x) (s .pre .1)))
+-- c is in its range
+fine : (s : tie.Start) → isChange (s .args .x) ≡ true
+fine s = change-fine (s .args .b) (s .args .x) (s .pre .1)
 
-split-requires-2 : tie.Need-split-requires-2
-split-requires-2 c κs =
+gained-requires : tie.Need-gained-requires
+gained-requires c κs =
+    let range = c-range _ (fine (c .before)) in
+    rw (toZ-ofZ (record { sfits = c .struct-told .given .0 .1 })) (omega (arith, c .before .pre .0 .0), range .0, range .1)
+
+-- G afterwards
+total : (c : tie.After-gained) → c .gained .result ≡ pos (c .before .before .args .b .total) +ℤ c .before .before .args .x .c
+total c = rw (toZ-ofZ (record { sfits = c .before .struct-told .given .0 .1 })) at (c .gained .ensures)
+
+counted-requires : tie.Need-counted-requires
+counted-requires c κs = search needs
+
+gained-requires-2 : tie.Need-gained-requires-2
+gained-requires-2 c κs =
     let s = c .before .before .before in
-    rw (toZ-ofZ (record { sfits = c .struct-told2 .given .1 .0 .1 })) (arm-range (s .args .x .arm) (arm-fine (s .args .b) (s .args .x) (s .pre .1)))
+    let range = part-range _ (fine s) in
+    rw (toZ-ofZ (record { sfits = c .counted .ok }), c .counted .ensures) (omega (arith, s .pre .0 .0), range .0, range .1)
 
--- the calls of `split` speak of what is read back from the bits
-sides : (s : tie.After-split) → SidesOf (s .before .before .args .x .c) (s .split .result .up) (s .split .result .down)
-sides s = rw (toZ-ofZ (record { sfits = s .before .struct-told .given .0 .1 })) at (s .split .ensures)
+-- n afterwards
+nonlifting : (c : tie.After-gained2) → c .gained2 .result ≡ pos (c .before .before .before .before .args .b .nonlifting) +ℤ part (c .before .before .before .before .args .x)
+nonlifting c = rw (toZ-ofZ (record { sfits = c .before .counted .ok }), c .before .counted .ensures) at (c .gained2 .ensures)
 
-arms : (s : tie.After-split2) → SidesOf (s .before .before .before .before .args .x .arm) (s .split2 .result .up) (s .split2 .result .down)
-arms s = rw (toZ-ofZ (record { sfits = s .before .struct-told2 .given .1 .0 .1 })) at (s .split2 .ensures)
+moment-of-requires : tie.Need-moment-of-requires
+moment-of-requires c κs =
+    let s = c .before .before .before .before .before .before in
+    let range = c-range _ (fine s) in
+    let arm = arm-range (s .args .x .arm) (arm-fine (s .args .b) (s .args .x) (s .pre .1)) in
+    rw (toZ-ofZ (record { sfits = c .before .struct-told2 .given .0 .1 }), toZ-ofZ (record { sfits = c .struct-told3 .given .1 .0 .1 })) (range .0, range .1, arm .0, arm .1)
 
-nonlifting-of-requires : tie.Need-nonlifting-of-requires
-nonlifting-of-requires c κs = search needs
+size-requires : tie.Need-size-requires
+size-requires c κs =
+    let s = c .before .before .before .before .before .before .before in
+    let range = total-range (s .args .b) (s .args .x) (s .pre .1) in
+    rw (toZ-ofZ (record { sfits = c .before .before .before .before .before .gained .ok }), total (c .before .before .before .before .before)) (omega (arith, zs, range .0))
 
-add-t6 : tie.Need-add-t6
-add-t6 c = search needs
-
-sub-t7 : tie.Need-sub-t7
-sub-t7 c =
-    let s = c .before .before .before .before .before .before .before .before in
-    omega (arith, least-total (s .args .b) (s .args .x) (s .pre .1) _ _ (is-sides (sides (c .before .before .before .before .before .before))))
-
-times-requires : tie.Need-times-requires
-times-requires c κs = search needs
+add-t8 : tie.Need-add-t8
+add-t8 c = search needs
 
 add-t9 : tie.Need-add-t9
 add-t9 c = search needs
 
-times-requires-2 : tie.Need-times-requires-2
-times-requires-2 c κs = search needs
-
-add-t11 : tie.Need-add-t11
-add-t11 c = search needs
-
-times-requires-3 : tie.Need-times-requires-3
-times-requires-3 c κs = search needs
-
-add-t13 : tie.Need-add-t13
-add-t13 c = search needs
-
-times-requires-4 : tie.Need-times-requires-4
-times-requires-4 c κs = search needs
-
-add-t15 : tie.Need-add-t15
-add-t15 c = search needs
-
-add-t16 : tie.Need-add-t16
-add-t16 c =
-    let s = c .before .before .before .before .before .before .before .before .before .before .before .before .before .before .before .before in
-    let r = c .before .before .before .before .before .before .before .before .before .before .before .before .before .before .split .result in
-    omega (arith, s .pre .0 .0, c .before .before .before .before .before .before .before .before .before .before .before .nonlifting-of .ensures, counted-most (s .args .x) (r .up), sides (c .before .before .before .before .before .before .before .before .before .before .before .before .before .before) .high)
-
-sub-t17 : tie.Need-sub-t17
-sub-t17 c =
-    let s = c .before .before .before .before .before .before .before .before .before .before .before .before .before .before .before .before .before in
-    let n = c .before .before .before .before .before .before .before .before .before .before .before .before .nonlifting-of .ensures in
-    rw (n .0, n .1) (least-part (s .args .b) (s .args .x) (s .pre .1) _ _ (is-sides (sides (c .before .before .before .before .before .before .before .before .before .before .before .before .before .before .before))))
+size-requires-2 : tie.Need-size-requires-2
+size-requires-2 c κs =
+    let s = c .before .before .before .before .before .before .before .before .before .before .before .before in
+    rw (toZ-ofZ (record { sfits = c .before .before .before .before .before .before .before .before .gained2 .ok }), nonlifting (c .before .before .before .before .before .before .before .before)) (part-within (s .args .b) (s .args .x) (s .pre .1) .0)
 
 returns : tie.Need-returns
 returns c =
-    let s = c .before .before .before .before .before .before .before .before .before .before .before .before .before .before .before .before .before in
-    let n = c .before .before .before .before .before .before .before .before .before .before .before .before .nonlifting-of .ensures in
-    let i = is-sides (sides (c .before .before .before .before .before .before .before .before .before .before .before .before .before .before .before)) in
-    let j = is-sides (arms (c .before .before .before .before .before .before .before .before .before .before .before .before .before)) in
+    let s = c .before .before .before .before .before .before .before .before .before .before .before .before .before in
     let b = s .args .b in
     let x = s .args .x in
-    let least = least-total b x (s .pre .1) _ _ i in
-    let most = most-total b x (s .pre .1) _ _ i in
-    let least-n = least-part b x (s .pre .1) _ _ i in
-    let most-n = most-part b x (s .pre .1) _ _ i in
-    let uu = c .before .before .before .before .before .before .before .before .times in
-    let dd = c .before .before .before .before .before .before .times2 in
-    let ud = c .before .before .before .before .before .times3 in
-    let du = c .before .before .before .times4 in
-    let u = c .before .before .before .before .before .before .before .before .before .before .before .before .before .before .before .split .result .up in
-    let d = c .before .before .before .before .before .before .before .before .before .before .before .before .before .before .before .split .result .down in
-    let part = c .before .before .before .before .before .before .before .before .before .before .before .before .nonlifting-of .result in
-    let r : Balance =
-    record {
-      total = b .total + u - d;
-      aft = b .aft + uu .result + dd .result;
-      fore = b .fore + ud .result + du .result;
-      nonlifting = b .nonlifting + part .up - part .down;
-    } in (
-      after-is b x _ _ _ _ i j (omega arith) least-n r refl (rw (uu .ensures .0, dd .ensures .0)) (rw (ud .ensures .0, du .ensures .0)) (rw (n .0, n .1)),
-      record { least = omega arith; most = omega arith; part = rw (n .0, n .1) (omega arith) },
-      omega (arith, uu .ensures .1, dd .ensures .1),
-      omega (arith, ud .ensures .1, du .ensures .1),
+    let m = c .before .before .before .before .before .before .moment-of in
+    let et : pos (c .before .before .before .before .before .size .result) ≡ pos (b .total) +ℤ x .c = rw (toZ-ofZ (record { sfits = c .before .before .before .before .before .before .before .before .before .before .before .gained .ok }), total (c .before .before .before .before .before .before .before .before .before .before .before)) at (c .before .before .before .before .before .size .ensures) in
+    let en : pos (c .size2 .result) ≡ pos (b .nonlifting) +ℤ part x = rw (toZ-ofZ (record { sfits = c .before .before .before .before .before .before .before .before .before .gained2 .ok }), nonlifting (c .before .before .before .before .before .before .before .before .before)) at (c .size2 .ensures) in
+    let em : x .c *ℤ x .arm ≡ pos (m .result .up) -ℤ pos (m .result .down) = rw (toZ-ofZ (record { sfits = c .before .before .before .before .before .before .before .before .struct-told2 .given .0 .1 }), toZ-ofZ (record { sfits = c .before .before .before .before .before .before .before .struct-told3 .given .1 .0 .1 })) at (m .ensures .0) in
+    let g = total-range b x (s .pre .1) in
+    let n = part-within b x (s .pre .1) in
+    let r : Balance = record { total = c .before .before .before .before .before .size .result; aft = b .aft + m .result .up; fore = b .fore + m .result .down; nonlifting = c .size2 .result } in (
+      after-is b r x (m .result .up) (m .result .down) et en em refl refl,
+      record { least = omega (arith, zs, et, g .0); most = omega (arith, zs, et, g .1); part = omega (arith, zs, et, en, n .1) },
+      omega (arith, m .ensures .1),
+      omega (arith, m .ensures .2),
     )
 
 pub changed-spec : {M : Type 1} → statement M
 changed-spec =
     tie.close
     (tie.spec
-    split-requires
-    split-requires-2
-    nonlifting-of-requires
-    add-t6
-    sub-t7
-    times-requires
+    gained-requires
+    counted-requires
+    gained-requires-2
+    moment-of-requires
+    size-requires
+    add-t8
     add-t9
-    times-requires-2
-    add-t11
-    times-requires-3
-    add-t13
-    times-requires-4
-    add-t15
-    add-t16
-    sub-t17
+    size-requires-2
     returns)

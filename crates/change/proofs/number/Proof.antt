@@ -1,19 +1,17 @@
 -- `change::number` meets its contract: each way out by the law of what holds there. Assumes nothing.
 use borrow.Author.Needs.{needs}
-use borrow.Author.Tests.{leb-true}
-use mathlib.Core.Path.{_≡_, sym, _∙_}
+use mathlib.Core.Path.{_≡_, _∙_, ap}
 use mathlib.Core.Bool.{true}
-use Prim.Native.Nat.{_+_, _≤_}
+use Prim.Native.Nat.{_≤_}
 use native.Mathlib.Omega.{arith}
-use lib.Dec.{leb}
+use lib.IntN.{pos, _+ℤ_}
 use mir.Facts.{toZ-ofZ}
-use Rattle.laws.specs.Tests.{left, failed, passed}
-use Rattle.laws.specs.Z.{SidesOf, is-sides}
+use Rattle.laws.specs.Tests.{failed, passed}
 use Rattle.paper.specs.Units.{isArm}
 use Rattle.paper.specs.Record as paper
 use Rattle.paper.specs.Refusals.{isTotal, isNonLifting, isChange}
 use Rattle.balance.specs.Balance.{plain}
-use Rattle.change.proofs.Changes.{c-range, counted-most, total-test, part-test, arm-bad, change-bad, total-bad, part-bad, all-fine}
+use Rattle.change.proofs.Changes.{part, c-range, part-range, total-test, part-test, arm-bad, change-bad, total-bad, part-bad, all-fine}
 use Rattle.change.proofs.number.Statement.{statement}
 use Rattle.change.proofs.number.Tie as tie
 
@@ -44,68 +42,62 @@ returns-2 c =
 change-fine : (c : tie.Else2) → isChange (c .before .before .before .before .before .args .x) ≡ true
 change-fine c = passed (c .before .in-range .ensures) (c .if2 .left)
 
-split-requires : tie.Need-split-requires
-split-requires c κs =
-    rw (toZ-ofZ (record { sfits = c .struct-told2 .given .0 .1 })) (c-range _ (change-fine (c .before)))
+gained-requires : tie.Need-gained-requires
+gained-requires c κs =
+    let range = c-range _ (change-fine (c .before)) in
+    rw (toZ-ofZ (record { sfits = c .struct-told2 .given .0 .1 })) (omega arith, range .0, range .1)
 
-sides : (s : tie.After-split) → SidesOf (s .before .before .before .before .before .before .before .args .x .c) (s .split .result .up) (s .split .result .down)
-sides s = rw (toZ-ofZ (record { sfits = s .before .struct-told2 .given .0 .1 })) at (s .split .ensures)
+-- G afterwards
+total : (c : tie.After-gained) → c .gained .result ≡ pos (c .before .before .before .before .before .before .before .args .b .total) +ℤ c .before .before .before .before .before .before .before .args .x .c
+total c = rw (toZ-ofZ (record { sfits = c .before .struct-told2 .given .0 .1 })) at (c .gained .ensures)
 
-stays-requires : tie.Need-stays-requires
-stays-requires c κs = search needs
+within-requires : tie.Need-within-requires
+within-requires c κs = search needs
 
--- what `stays` answers of G
-total : (c : tie.After-stays) → c .stays .result ≡ isTotal (paper.changed (plain (c .before .before .before .before .before .before .before .before .args .b)) (c .before .before .before .before .before .before .before .before .args .x) .total)
-total c =
+-- what `within` answers of it
+total-tested : (c : tie.After-within) → c .within .result ≡ isTotal (paper.changed (plain (c .before .before .before .before .before .before .before .before .args .b)) (c .before .before .before .before .before .before .before .before .args .x) .total)
+total-tested c =
     let g = c .before .before .before .before .before .before .before .before .args in
-    c .stays .ensures ∙ sym (total-test (g .b) (g .x) _ _ (is-sides (sides (c .before))))
+    rw (toZ-ofZ (record { sfits = c .before .gained .ok })) at (c .within .ensures) ∙ total-test (g .b) (g .x) _ (total (c .before))
 
 returns-3 : tie.Need-returns-3
 returns-3 c =
     let g = c .before .before .before .before .before .before .before .before .before .args in
-    total-bad (g .b) (g .x) (arm-fine (c .before .before .before .before .before .before)) (change-fine (c .before .before .before .before)) (failed (total (c .before)) (c .if3 .taken))
+    total-bad (g .b) (g .x) (arm-fine (c .before .before .before .before .before .before)) (change-fine (c .before .before .before .before)) (failed (total-tested (c .before)) (c .if3 .taken))
 
-nonlifting-of-requires : tie.Need-nonlifting-of-requires
-nonlifting-of-requires c κs = search needs
+counted-requires : tie.Need-counted-requires
+counted-requires c κs = search needs
 
-add-stays : tie.Need-add-stays
-add-stays c = search needs
+gained-requires-2 : tie.Need-gained-requires-2
+gained-requires-2 c κs =
+    let range = part-range _ (change-fine (c .before .before .before .before .before)) in
+    let s = c .before .before .before .before .before .before .before .before .before .before in
+    rw (toZ-ofZ (record { sfits = c .counted .ok }), c .counted .ensures) (omega (arith, s .pre), range .0, range .1)
 
--- past the third: c takes less than G away
-less : (c : tie.Else3) → c .before .before .split .result .down ≤ c .before .before .before .before .before .before .before .before .before .args .b .total + c .before .before .split .result .up
-less c =
-    let r = c .before .before .split .result in
-    let g = c .before .before .before .before .before .before .before .before .before .args .b .total in
-    let low = left (leb (1 + r .down) (g + r .up)) (leb (g + r .up) (2000000 + r .down)) (passed (c .before .stays .ensures) (c .if3 .left)) in
-    omega (arith, leb-true (1 + r .down) (g + r .up) low)
+-- n afterwards
+nonlifting : (c : tie.After-gained2) → c .gained2 .result ≡ pos (c .before .before .before .before .before .before .before .before .before .before .before .args .b .nonlifting) +ℤ part (c .before .before .before .before .before .before .before .before .before .before .before .args .x)
+nonlifting c = rw (toZ-ofZ (record { sfits = c .before .counted .ok }), c .before .counted .ensures) at (c .gained2 .ensures)
 
-sub-stays : tie.Need-sub-stays
-sub-stays c = less (c .before .before .before .before)
+within-requires-2 : tie.Need-within-requires-2
+within-requires-2 c κs = search needs
 
-stays-requires-2 : tie.Need-stays-requires-2
-stays-requires-2 c κs =
-    let x = c .before .before .before .before .before .before .before .before .before .before .before .before .before .args .x in
-    let r = c .before .before .before .before .before .before .split .result in
-    omega (arith, c .before .before .before .before .before .before .before .before .before .before .before .before .before .pre, counted-most x (r .up), counted-most x (r .down))
-
--- what the second `stays` answers of n
-part : (c : tie.After-stays2) → c .stays2 .result ≡ isNonLifting (paper.changed (plain (c .before .before .before .before .before .before .before .before .before .before .before .before .before .before .args .b)) (c .before .before .before .before .before .before .before .before .before .before .before .before .before .before .args .x))
-part c =
-    let g = c .before .before .before .before .before .before .before .before .before .before .before .before .before .before .args in
-    let n = c .before .before .before .before .nonlifting-of .ensures in
-    rw (n .0, n .1) at (c .stays2 .ensures) ∙ sym (part-test (g .b) (g .x) _ _ (is-sides (sides (c .before .before .before .before .before .before .before))) (less (c .before .before .before .before .before)))
+-- what the second `within` answers of it
+part-tested : (c : tie.After-within2) → c .within2 .result ≡ isNonLifting (paper.changed (plain (c .before .before .before .before .before .before .before .before .before .before .before .before .args .b)) (c .before .before .before .before .before .before .before .before .before .before .before .before .args .x))
+part-tested c =
+    let g = c .before .before .before .before .before .before .before .before .before .before .before .before .args in
+    rw (toZ-ofZ (record { sfits = c .before .gained2 .ok }), toZ-ofZ (record { sfits = c .before .before .before .before .before .gained .ok })) at (c .within2 .ensures) ∙ part-test (g .b) (g .x) _ _ (total (c .before .before .before .before .before)) (nonlifting (c .before))
 
 returns-4 : tie.Need-returns-4
 returns-4 c =
-    let g = c .before .before .before .before .before .before .before .before .before .before .before .before .before .before .before .args in
-    let t = c .before .before .before .before .before .before in
-    part-bad (g .b) (g .x) (arm-fine (c .before .before .before .before .before .before .before .before .before .before .before .before)) (change-fine (c .before .before .before .before .before .before .before .before .before .before)) (passed (total (t .before)) (t .if3 .left)) (failed (part (c .before)) (c .if4 .taken))
+    let g = c .before .before .before .before .before .before .before .before .before .before .before .before .before .args in
+    let t = c .before .before .before .before in
+    part-bad (g .b) (g .x) (arm-fine (c .before .before .before .before .before .before .before .before .before .before)) (change-fine (c .before .before .before .before .before .before .before .before)) (passed (total-tested (t .before)) (t .if3 .left)) (failed (part-tested (c .before)) (c .if4 .taken))
 
 returns-5 : tie.Need-returns-5
 returns-5 c =
-    let g = c .before .before .before .before .before .before .before .before .before .before .before .before .before .before .before .args in
-    let t = c .before .before .before .before .before .before in
-    all-fine (g .b) (g .x) (arm-fine (c .before .before .before .before .before .before .before .before .before .before .before .before)) (change-fine (c .before .before .before .before .before .before .before .before .before .before)) (passed (total (t .before)) (t .if3 .left)) (passed (part (c .before)) (c .if4 .left))
+    let g = c .before .before .before .before .before .before .before .before .before .before .before .before .before .args in
+    let t = c .before .before .before .before in
+    all-fine (g .b) (g .x) (arm-fine (c .before .before .before .before .before .before .before .before .before .before)) (change-fine (c .before .before .before .before .before .before .before .before)) (passed (total-tested (t .before)) (t .if3 .left)) (passed (part-tested (c .before)) (c .if4 .left))
 
 pub number-spec : {M : Type 1} → statement M
 number-spec =
@@ -115,12 +107,11 @@ number-spec =
     returns
     in-range-requires
     returns-2
-    split-requires
-    stays-requires
+    gained-requires
+    within-requires
     returns-3
-    nonlifting-of-requires
-    add-stays
-    sub-stays
-    stays-requires-2
+    counted-requires
+    gained-requires-2
+    within-requires-2
     returns-4
     returns-5)
