@@ -8,9 +8,9 @@ use native.Mathlib.Omega.{arith}
 use lib.Dec.{leb, eqb}
 use lib.IntN.{ℤ, pos, negsuc, natAbs, _+ℤ_, _-ℤ_, _*ℤ_}
 use lib.Signed.{leZ, ltZ, _≤ℤ_}
-use borrow.Author.Tests.{leb-true, not-false, eq-eqb, ne-eqb}
+use borrow.Author.Tests.{not-false, eq-eqb, ne-eqb}
 use Rattle.laws.specs.Tests.{both, left, right, left-fails, right-fails, left-passes, not-left, not-right, turned, turned-no}
-use Rattle.laws.specs.Z.{zs, Is, is-nat, is-int, is-add, is-sub, is-mul, abs-eq, goal-leZ, goal-nleZ, leZ-test}
+use Rattle.laws.specs.Z.{zs, is-nat, is-int, is-add, is-sub, abs-eq, goal-leZ, goal-nleZ}
 use Rattle.paper.proofs.Numbers.{no-first, no-other}
 use Rattle.paper.specs.declared.Change.{Change}
 use Rattle.paper.specs.Units.{between, isArm}

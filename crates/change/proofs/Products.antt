@@ -1,6 +1,6 @@
 -- A product of two numbers from -2000000 to 2000000 is small: each side of it is a sum of two products of sides. Assumes
 -- nothing.
-use Prim.Native.Nat.{ℕ, _≤_}
+use Prim.Native.Nat.{_≤_}
 use native.Mathlib.Omega.{arith}
 use native.Mathlib.Nat.{mul-le-mul}
 use lib.IntN.{ℤ, pos, negsuc, _*ℤ_}

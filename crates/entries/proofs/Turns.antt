@@ -1,16 +1,14 @@
 -- One field more of a row, written: each list of fields grows at its end. Assumes nothing.
-use mathlib.Core.Path.{_≡_, refl, sym, ap, _∙_}
-use mathlib.Core.List.{List, [], _∷_, _++_, append-assoc}
+use mathlib.Core.Path.{_≡_, sym, _∙_}
+use mathlib.Core.List.{List, [], _∷_, _++_}
 use Prim.Native.Nat.{ℕ, zero, suc, _+_, _-_, _≤_, _<_}
 use native.Mathlib.Numerals.{add-one}
 use native.Mathlib.Omega.{arith}
-use lib.ListN.{length, getD, take, drop, set, replicate}
-use lib.Seq.{take-suc, length-take-le, set-at, drop-drop}
-use Rattle.laws.specs.Lists.{length-more}
+use lib.ListN.{length, getD, take}
+use lib.Seq.{take-suc, length-take-le}
 use Rattle.laws.specs.Written.{written, length-written, written-more}
-use Rattle.paper.specs.File.{bytesOf, numberOf}
-use Rattle.format.specs.Fields.{total, numbersFrom, numbersBytes, total-more, numbers-more, numbers-length, bytes-more, bytes-length}
-use Rattle.layout.specs.Table.{padded}
+use Rattle.paper.specs.File.{bytesOf}
+use Rattle.format.specs.Fields.{total, numbersBytes, total-more, bytes-more, bytes-length}
 
 -- ---- widths
 

@@ -7,7 +7,6 @@ use lib.ListN.{length, getD, take, length-append, length-map}
 use lib.Seq.{length-take-le}
 use Rattle.laws.specs.Lists.{map-append, map-take-more}
 use Rattle.laws.specs.Written.{written, written-more}
-use Rattle.paper.specs.declared.Entry.{Entry}
 use Rattle.paper.specs.File.{entryBytes}
 use Rattle.paper.proofs.Lists.{joined-last, joined-part}
 use Rattle.format.specs.Entries.{entry-length, entries-length}

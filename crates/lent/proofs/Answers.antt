@@ -17,7 +17,7 @@ use Rattle.paper.specs.declared.Written.{Written}
 use Rattle.paper.specs.Rows.{joined}
 use Rattle.paper.specs.File.{entryBytes, fileBytes}
 use Rattle.paper.specs.Refusals.{entryNumber, fileOf, firstNumber, isNone, readingNumber}
-use Rattle.paper.specs.Answers.{over, writtenAnswer, centreRefused, centreAnswer, placardRefused, placardAnswer}
+use Rattle.paper.specs.Answers.{over, centreRefused, centreAnswer, placardRefused, placardAnswer}
 use Rattle.paper.specs.Journal.{Call, undo, read, callOf, callNumber, acceptedCall, withoutLast, entriesOr}
 use Rattle.paper.proofs.Lists.{last-apart}
 use Rattle.format.specs.Files.{file-accepted}
@@ -25,7 +25,7 @@ use Rattle.record.proofs.Calls.{undo-bare, undo-some}
 use Rattle.stored.specs.Header.{headerOf}
 use Rattle.stored.specs.Found.{bytesIn}
 use Rattle.stored.proofs.Parts.{file-size, too-short, long-enough}
-use Rattle.lent.specs.Lent.{fileIn, heldIn, checkNumber, lentFile, lentBy, lentCall, lentRead, centreFor, placardFor}
+use Rattle.lent.specs.Lent.{heldIn, checkNumber, lentFile, lentBy, lentCall, lentRead, centreFor, placardFor}
 use Rattle.lent.proofs.Fronts.{held-file, held-room}
 use Rattle.lent.proofs.Changed.{file-more, put-again, entry-put, entry-left}
 

@@ -2,11 +2,11 @@
 -- entry more behind them, and with one less. Assumes nothing.
 use mathlib.Core.Path.{_≡_, refl, sym, ap, _∙_}
 use mathlib.Core.List.{List, [], _∷_, _++_, map, append-assoc}
-use Prim.Native.Nat.{ℕ, _+_, _-_, _≤_, _<_}
+use Prim.Native.Nat.{ℕ, _+_, _-_, _<_}
 use native.Mathlib.Omega.{arith}
-use lib.ListN.{length, take, drop, length-append, take-append-drop}
-use lib.Seq.{take-at, drop-at, drop-drop, take-append-seam}
-use Rattle.laws.specs.Lists.{map-append, length-more}
+use lib.ListN.{length, take, drop, length-append}
+use lib.Seq.{drop-at, drop-drop}
+use Rattle.laws.specs.Lists.{map-append}
 use Rattle.laws.specs.Written.{written, written-first}
 use Rattle.paper.specs.declared.Entry.{Entry}
 use Rattle.paper.specs.Rows.{joined}

@@ -1,20 +1,20 @@
 -- A buffer that holds a list: the list is one that calls give, and the buffer begins with its file. Assumes nothing.
 use mathlib.Core.Path.{_≡_, sym, ap, _∙_}
 use mathlib.Core.Bool.{true}
-use mathlib.Core.List.{List, [], _∷_, _++_, append-assoc}
+use mathlib.Core.List.{List, _++_, append-assoc}
 use mathlib.Core.Option.{some}
-use Prim.Native.Nat.{ℕ, _+_, _-_, _≤_, _<_}
+use Prim.Native.Nat.{ℕ, _+_, _-_, _≤_}
 use native.Mathlib.Decide.{decLe}
 use native.Mathlib.Omega.{arith}
-use lib.ListN.{length, take, drop, length-append, take-append-drop}
-use lib.Seq.{take-all, length-take-le, take-append-seam, take-at, drop-at}
+use lib.ListN.{length, take, drop, take-append-drop}
+use lib.Seq.{take-all, length-take-le, drop-at}
 use Rattle.paper.specs.declared.Entry.{Entry}
 use Rattle.paper.specs.File.{numberOf, fileBytes}
-use Rattle.paper.specs.Refusals.{accepted, fileOf}
+use Rattle.paper.specs.Refusals.{accepted}
 use Rattle.format.specs.Files.{file-accepted}
 use Rattle.stored.specs.Header.{headerOf}
 use Rattle.stored.specs.Found.{bytesIn}
-use Rattle.stored.proofs.Parts.{length-header, file-parts, file-size}
+use Rattle.stored.proofs.Parts.{length-header, file-parts}
 use Rattle.lent.specs.Lent.{fileIn, heldIn}
 
 -- the first of a list, as many as were taken

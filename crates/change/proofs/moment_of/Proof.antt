@@ -1,10 +1,8 @@
 -- `change::moment_of` meets its contract: the product is small, so its sides are. Assumes nothing.
 use mathlib.Core.Path.{_≡_, sym, ap₂, subst}
 use native.Mathlib.Omega.{arith}
-use lib.IntN.{ℤ, pos, _-ℤ_, _*ℤ_}
+use lib.IntN.{ℤ, _*ℤ_}
 use mir.Facts.{toZ-ofZ}
-use mir.Syntax.{w64}
-use mir.Val.{SFits}
 use Rattle.laws.specs.Z.{zs, rd, back, is-nat, is-int, is-sub, one-side}
 use Rattle.change.proofs.Products.{Small, small}
 use Rattle.change.proofs.moment_of.Statement.{statement}

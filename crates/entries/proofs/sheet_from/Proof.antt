@@ -1,7 +1,6 @@
 -- `entries::sheet_from` meets its contract, by how many bytes there are. Assumes nothing.
 use borrow.Author.Needs.{needs}
 use mathlib.Core.Path.{refl}
-use native.Mathlib.Omega.{arith}
 use Rattle.paper.specs.File.{layoutOf}
 use Rattle.paper.specs.Refusals.{isNone}
 use Rattle.format.specs.Fields.{widths, total}

@@ -1,8 +1,6 @@
 -- `nodhulika::nodhulika_centre` meets its contract: what `lent::centre` answers, and its numbers in bytes. Assumes nothing.
 use borrow.Author.Needs.{needs}
-use mathlib.Core.Path.{sym, ap, _∙_, refl}
-use mathlib.Core.List.{List}
-use Prim.Native.Nat.{ℕ}
+use mathlib.Core.Path.{ap, _∙_, refl}
 use native.Mathlib.Omega.{arith}
 use lib.IntN.{pos}
 use mir.Facts.{toZ-ofZ}

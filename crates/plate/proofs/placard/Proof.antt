@@ -2,9 +2,7 @@
 -- Assumes nothing.
 use borrow.Author.Needs.{needs}
 use mathlib.Core.Path.{_≡_, sym, ap, _∙_}
-use mathlib.Core.List.{List}
 use native.Mathlib.Omega.{arith}
-use Rattle.paper.specs.declared.Entry.{Entry}
 use Rattle.paper.specs.Record.{sheetOf}
 use Rattle.sheet.specs.InForce.{found}
 use Rattle.sheet.proofs.Lists.{sheet-accepted}

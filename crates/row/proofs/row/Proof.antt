@@ -1,5 +1,4 @@
 -- `row::row` meets its contract: the half-planes say what the limits say, and the solver finds their row. Assumes nothing.
-use borrow.Author.Needs.{needs}
 use mathlib.Core.Path.{_≡_, _∙_}
 use native.Mathlib.Omega.{arith}
 use Rattle.paper.specs.Rows.{rowOf}

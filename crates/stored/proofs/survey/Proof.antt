@@ -1,13 +1,12 @@
 -- `stored::survey` meets its contract: by the header, and behind it by the entries. Assumes nothing.
 use borrow.Author.Needs.{needs}
-use mathlib.Core.Path.{_≡_, sym, ap, _∙_}
+use mathlib.Core.Path.{_≡_}
 use mathlib.Core.Bool.{true}
 use native.Mathlib.Omega.{arith}
 use lib.Pow.{areBytes}
 use Rattle.laws.specs.Tests.{failed, passed}
 use Rattle.format.specs.Numbers.{bytes-at}
 use Rattle.stored.specs.Header.{headed}
-use Rattle.stored.specs.Found.{Finds}
 use Rattle.stored.proofs.Headers.{enough-bytes, bad-header, good-header, too-many}
 use Rattle.stored.proofs.survey.Statement.{statement}
 use Rattle.stored.proofs.survey.Tie as tie
