@@ -188,7 +188,7 @@ fn a_declaration_that_drifts_is_caught() {
     let in_rattle = [
         ("file: &[u8]", "file: &mut [u8]"),
         ("arm: i64, flag: u64", "flag: u64, arm: i64"),
-        ("b: u64, n: u64) -> u64", "b: u64, n: u64) -> i64"),
+        ("flag: u64) -> u64", "flag: u64) -> i64"),
     ];
     caught(&rattle(), declared_in_rattle, &in_rattle);
 }
