@@ -10,7 +10,7 @@ use Rattle.laws.specs.Splits.{split}
 use Rattle.laws.specs.Lists.{Each}
 use Rattle.paper.specs.declared.Entry.{Entry}
 use Rattle.paper.specs.Placard.{feed}
-use Rattle.paper.specs.Journal.{Call, undo, callNumber, acceptedCall, afterCall, journalFrom, numbersFrom, journal, numbers, callOf}
+use Rattle.paper.specs.Journal.{Call, undo, callNumber, acceptedCall, afterBy, journalBy, numbersBy, journal, numbers, callOf}
 use Rattle.language.specs.declared.Line.{Line}
 use Rattle.language.specs.declared.Line.the-variants as line
 use Rattle.language.specs.Lines.{says}
@@ -31,7 +31,7 @@ callsOf (l ∷ ls) = callOfLine (says l) (callsOf ls)
 
 -- calls behind a list come to a list, and each gets no number
 abbrev Gives : List Entry → List Entry → List Call → Type 0
-Gives gs es xs = (journalFrom gs xs ≡ es) × Each (λ (n : ℕ). n ≡ 0) (numbersFrom gs xs)
+Gives gs es xs = (journalBy callNumber gs xs ≡ es) × Each (λ (n : ℕ). n ≡ 0) (numbersBy callNumber gs xs)
 
 -- ---- one line
 
@@ -44,7 +44,7 @@ module _ (i : ℕ) (gs es : List Entry) (ls : List (List ℕ)) (xs : List Call) 
       absurd (true≢false cc)
 
   call-gives : (x : Call) → afterLines i (called i gs x) ls ≡ stands es → Gives gs es (x ∷ xs)
-  unfolding called afterCall journalFrom numbersFrom
+  unfolding called afterBy journalBy numbersBy
   call-gives x h = let r = call-by (eqb (callNumber gs x) 0) x refl h in (r .0 .0, (r .1, r .0 .1))
 
   line-gives : (t : Line) → afterLines i (afterLine i gs t) ls ≡ stands es → Gives gs es (callOfLine t xs)
@@ -59,7 +59,7 @@ module _ (i : ℕ) (gs es : List Entry) (ls : List (List ℕ)) (xs : List Call) 
 -- ---- the theorem
 
 lines-give : (i : ℕ) (gs es : List Entry) (ls : List (List ℕ)) → afterLines i (stands gs) ls ≡ stands es → Gives gs es (callsOf ls)
-unfolding afterLines callsOf journalFrom numbersFrom
+unfolding afterLines callsOf journalBy numbersBy
 lines-give i gs es [] h = (same h, tt)
   where
     same : stands gs ≡ stands es → gs ≡ es

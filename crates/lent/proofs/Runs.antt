@@ -1,28 +1,30 @@
--- Calls in turn on a record that is lent as its file: what the buffer holds is the journal of the calls, and each gets the
--- journal's number, where the buffer has room for the longest file. Assumes nothing.
+-- Calls on a record that is lent as its file: what the buffer holds afterwards, and each call's number, by whether the list
+-- gives it one and whether the buffer has room for the file; and the journal itself where there is room for every file.
+-- Assumes nothing.
 use mathlib.Core.Path.{_≡_, refl, sym, ap, _∙_}
 use mathlib.Core.Bool.{Bool, true, false, cond}
 use mathlib.Core.List.{List, [], _∷_, _++_, append-assoc}
 use mathlib.Core.Option.{Option, none, some}
-use Prim.Native.Nat.{ℕ, _+_, _≤_}
+use Prim.Native.Nat.{ℕ, _+_, _≤_, _<_}
+use native.Mathlib.Decide.{decLe}
 use native.Mathlib.Omega.{arith}
 use lib.Dec.{eqb}
 use lib.ListN.{length, take, drop, length-append, length-drop}
 use lib.Seq.{take-at, take-append-seam}
-use borrow.Author.Tests.{eqb-true}
+use borrow.Author.Tests.{eqb-true, lt-ltb, le-ltb}
 use Rattle.paper.specs.declared.Entry.{Entry}
 use Rattle.paper.specs.File.{bytesOf, numberOf, bodyBytes, fileBytes}
-use Rattle.paper.specs.Refusals.{acceptedAfter, accepted, fileOf, isNone, firstNumber, readingNumber}
+use Rattle.paper.specs.Refusals.{acceptedAfter, accepted, fileOf, isNone, firstNumber, readingNumber, writingNumber}
 use Rattle.paper.specs.Answers.{over}
 use Rattle.paper.specs.Journal as journal
-use Rattle.paper.specs.Journal.{Call, callNumber, acceptedCall, afterCall, journalFrom, numbersFrom, numbers}
+use Rattle.paper.specs.Journal.{Call, callNumber, acceptedCall, afterBy, journalBy, numbersBy, numbers}
 use Rattle.format.specs.Numbers.{length-bytes, number-back}
 use Rattle.format.specs.Files.{file-length, read-written, file-accepted}
 use Rattle.judge.proofs.Accepted.{at-most-64}
 use Rattle.record.proofs.Following.{call-accepted}
-use Rattle.lent.specs.Lent.{fileIn, heldIn, lentFile, lentBy, lentCall, lentRead}
+use Rattle.lent.specs.Lent.{fileIn, heldIn, lentFile, lentBy, lentCall, lentRead, numberIn, journalIn, numbersIn}
 use Rattle.lent.proofs.Fronts.{held-accepted}
-use Rattle.lent.proofs.Answers.{file-put}
+use Rattle.lent.proofs.Answers.{file-put, file-short}
 
 -- ---- a file at the front
 
@@ -47,87 +49,108 @@ module _ (es : List Entry) (s : List ℕ) (a : accepted es ≡ true) where
   unfolding heldIn
   put-held = ap fileOf front-is ∙ read-written es a (at-most-64 es a)
 
-  put-length : 3910 ≤ length s → length (over (fileBytes es) s) ≡ length s
+  put-length : length (fileBytes es) ≤ length s → length (over (fileBytes es) s) ≡ length s
   unfolding over
-  put-length h = omega (arith, length-append (fileBytes es) (drop (length (fileBytes es)) s), length-drop (length (fileBytes es)) s, few)
+  put-length h = omega (arith, length-append (fileBytes es) (drop (length (fileBytes es)) s), length-drop (length (fileBytes es)) s)
 
 -- ---- one call
 
--- the buffer holds a list, and has room for every list's file
-record Holds (es : List Entry) (s : List ℕ) : Type 0 where
+-- a buffer of n bytes holds a list
+pub record Holds (n : ℕ) (es : List Entry) (s : List ℕ) : Type 0 where
   pub list : heldIn s ≡ some es
-  pub room : 3910 ≤ length s
+  pub room : length s ≡ n
 
--- a file put into such a buffer
-put : (es : List Entry) (s : List ℕ) → accepted es ≡ true → 3910 ≤ length s → (lentFile es s .0 ≡ 0) × Holds es (lentFile es s .1)
-put es s a h =
-    let e = file-put es s (omega (arith, few es s a)) in
-    rw e (refl, record { list = put-held es s a; room = omega (arith, put-length es s a h) })
+-- a call answers a number and leaves a buffer that holds a list
+abbrev pub Leaves : ℕ → ℕ × List ℕ → ℕ → List Entry → Type 0
+Leaves n p k es = (p .0 ≡ k) × Holds n es (p .1)
 
-by-number : (t : Bool) (x : Call) (es : List Entry) (s : List ℕ) → eqb (callNumber es x) 0 ≡ t → accepted es ≡ true → Holds es s → (cond t (lentFile (acceptedCall es x) s) (callNumber es x, s) .0 ≡ callNumber es x) × Holds (cond t (acceptedCall es x) es) (cond t (lentFile (acceptedCall es x) s) (callNumber es x, s) .1)
-by-number true x es s e a h =
-    let n = eqb-true (callNumber es x) 0 e in
-    let p = put (acceptedCall es x) s (call-accepted es x a n) (h .room) in
-    (p .0 ∙ sym n, p .1)
-by-number false x es s e a h = (refl, h)
+-- a fresh record
+pub fresh-leaves : (s : List ℕ) → lentFile [] s .0 ≡ 0 → Holds (length s) [] (lentFile [] s .1)
+unfolding accepted acceptedAfter
+fresh-leaves s e =
+    elim (decLe (length (fileBytes [])) (length s)) as (λ d. Holds (length s) [] (lentFile [] s .1)) [
+      | yes h ↦ rw (file-put [] s h) (record { list = put-held [] s refl; room = put-length [] s refl h })
+      | no h ↦ absurd (omega (arith, sym (ap (λ p. p .0) (file-short [] s (omega arith))) ∙ e))
+    ]
 
--- a call as the library has it: reading back takes its file from elsewhere
-unfoldable pub lentStep : Call → List ℕ → ℕ × List ℕ
-lentStep (journal.weigh w) s = lentCall (journal.weigh w) s
-lentStep (journal.install t) s = lentCall (journal.install t) s
-lentStep (journal.change x) s = lentCall (journal.change x) s
-lentStep journal.undo s = lentCall journal.undo s
-lentStep (journal.read xs) s = lentRead xs s
+module _ (n : ℕ) (es : List Entry) (s : List ℕ) (h : Holds n es s) (x : Call) where
+  -- an accepted call, by whether there is room for the file
+  by-room : callNumber es x ≡ 0 → Leaves n (lentFile (acceptedCall es x) s) (writingNumber (acceptedCall es x) n) (cond (eqb (writingNumber (acceptedCall es x) n) 0) (acceptedCall es x) es)
+  unfolding writingNumber firstNumber
+  by-room e =
+      let fs = acceptedCall es x in
+      let a = call-accepted es x (held-accepted s es (h .list)) e in
+      let m = length (fileBytes fs) in
+      elim (decLe m n) as (λ d. Leaves n (lentFile fs s) (writingNumber fs n) (cond (eqb (writingNumber fs n) 0) fs es)) [
+        | yes k ↦
+            let r : m ≤ length s = omega (arith, h .room) in
+            rw (file-put fs s r, le-ltb n m k) (refl, record { list = put-held fs s a; room = put-length fs s a r ∙ h .room })
+        | no k ↦
+            let r : length s < m = omega (arith, h .room) in
+            let l : n < m = omega arith in
+            rw (file-short fs s r, lt-ltb n m l) (refl, h)
+      ]
 
-module _ (es : List Entry) (s : List ℕ) (h : Holds es s) where
-  fine : accepted es ≡ true
-  fine = held-accepted s es (h .list)
+  by-number : (t : Bool) → eqb (callNumber es x) 0 ≡ t
+      → Leaves n (cond t (lentFile (acceptedCall es x) s) (callNumber es x, s)) (cond t (writingNumber (acceptedCall es x) n) (callNumber es x)) (cond (eqb (cond t (writingNumber (acceptedCall es x) n) (callNumber es x)) 0) (acceptedCall es x) es)
+  by-number true e = by-room (eqb-true (callNumber es x) 0 e)
+  by-number false e = rw e (refl, h)
 
-  called : (x : Call) → (lentCall x s .0 ≡ callNumber es x) × Holds (afterCall es x) (lentCall x s .1)
-  unfolding lentCall lentBy afterCall
-  called x = rw (h .list) (by-number (eqb (callNumber es x) 0) x es s refl fine h)
+  by-list : Leaves n (lentBy (some es) x s) (numberIn n es x) (afterBy (numberIn n) es x)
+  unfolding lentBy numberIn afterBy
+  by-list = by-number (eqb (callNumber es x) 0) refl
 
-  -- reading back goes by the file alone
-  read-back : (xs : List ℕ) → (lentRead xs s .0 ≡ callNumber es (journal.read xs)) × Holds (afterCall es (journal.read xs)) (lentRead xs s .1)
-  unfolding lentRead lentBy afterCall callNumber acceptedCall readingNumber firstNumber isNone
-  read-back xs = by-file (fileOf xs) refl
-    where
-      by-file : (o : Option (List Entry)) → fileOf xs ≡ o → (lentRead xs s .0 ≡ callNumber es (journal.read xs)) × Holds (afterCall es (journal.read xs)) (lentRead xs s .1)
-      by-file none e = rw e (refl, h)
-      by-file (some fs) e = rw e (put fs s (file-accepted xs fs e .0) (h .room))
+  pub call-leaves : Leaves n (lentCall x s) (numberIn n es x) (afterBy (numberIn n) es x)
+  unfolding lentCall
+  call-leaves = rw (h .list) by-list
 
-  step : (x : Call) → (lentStep x s .0 ≡ callNumber es x) × Holds (afterCall es x) (lentStep x s .1)
-  unfolding lentStep
-  step (journal.weigh w) = called (journal.weigh w)
-  step (journal.install t) = called (journal.install t)
-  step (journal.change x) = called (journal.change x)
-  step journal.undo = called journal.undo
-  step (journal.read xs) = read-back xs
+-- reading back goes by the file alone
+read-same : (es : List Entry) (xs s : List ℕ) → lentRead xs s ≡ lentBy (some es) (journal.read xs) s
+unfolding lentRead lentBy callNumber acceptedCall readingNumber firstNumber isNone
+read-same es xs s = by (fileOf xs) refl
+  where
+    by : (o : Option (List Entry)) → fileOf xs ≡ o → lentRead xs s ≡ lentBy (some es) (journal.read xs) s
+    by none e = rw e
+    by (some fs) e = rw e
 
--- ---- a list of them
+pub read-leaves : (n : ℕ) (es : List Entry) (s : List ℕ) → Holds n es s → (xs : List ℕ) → Leaves n (lentRead xs s) (numberIn n es (journal.read xs)) (afterBy (numberIn n) es (journal.read xs))
+read-leaves n es s h xs = rw (read-same es xs s) (by-list n es s h (journal.read xs))
 
--- the numbers, and the buffer that the last one leaves
-unfoldable pub numbersIn : List Call → List ℕ → List ℕ
-numbersIn [] s = []
-numbersIn (x ∷ xs) s = lentStep x s .0 ∷ numbersIn xs (lentStep x s .1)
+-- ---- with room for every file
 
-unfoldable pub leftBy : List Call → List ℕ → List ℕ
-leftBy [] s = s
-leftBy (x ∷ xs) s = leftBy xs (lentStep x s .1)
+module _ (n : ℕ) (h : 3910 ≤ n) where
+  room-by : (t : Bool) (es : List Entry) (x : Call) → accepted es ≡ true → eqb (callNumber es x) 0 ≡ t → cond t (writingNumber (acceptedCall es x) n) (callNumber es x) ≡ callNumber es x
+  unfolding writingNumber firstNumber
+  room-by true es x a e =
+      let z = eqb-true (callNumber es x) 0 e in
+      let m = length (fileBytes (acceptedCall es x)) in
+      rw (le-ltb n m (omega (arith, few (acceptedCall es x) [] (call-accepted es x a z)))) (sym z)
+  room-by false es x a e = refl
 
-follows : (xs : List Call) (es : List Entry) (s : List ℕ) → Holds es s → (numbersIn xs s ≡ numbersFrom es xs) × (heldIn (leftBy xs s) ≡ some (journalFrom es xs))
-unfolding numbersIn leftBy numbersFrom journalFrom
-follows [] es s h = (refl, h .list)
-follows (x ∷ xs) es s h =
-    let one = step es s h x in
-    let more = follows xs (afterCall es x) (lentStep x s .1) (one .1) in
-    (λ i. one .0 i ∷ more .0 i, more .1)
+  same-number : (es : List Entry) (x : Call) → accepted es ≡ true → numberIn n es x ≡ callNumber es x
+  unfolding numberIn
+  same-number es x a = room-by (eqb (callNumber es x) 0) es x a refl
 
--- From a fresh record on, in a buffer of 3,910 bytes or more: each call gets the number that the journal of the calls gives it,
--- and the buffer holds the journal's list.
-pub lent-journal : (xs : List Call) (s : List ℕ) → 3910 ≤ length s → (lentFile [] s .0 ≡ 0) × (numbersIn xs (lentFile [] s .1) ≡ numbers xs) × (heldIn (leftBy xs (lentFile [] s .1)) ≡ some (journal.journal xs))
-unfolding accepted acceptedAfter numbers journal.journal
-lent-journal xs s h =
-    let p = put [] s refl h in
-    let f = follows xs [] (lentFile [] s .1) (p .1) in
-    (p .0, f .0, f .1)
+  same-list : (es : List Entry) (x : Call) → accepted es ≡ true → afterBy (numberIn n) es x ≡ afterBy callNumber es x
+  unfolding afterBy
+  same-list es x a = ap (λ (k : ℕ). cond (eqb k 0) (acceptedCall es x) es) (same-number es x a)
+
+  after-by : (t : Bool) (es : List Entry) (x : Call) → accepted es ≡ true → eqb (callNumber es x) 0 ≡ t → accepted (cond t (acceptedCall es x) es) ≡ true
+  after-by true es x a e = call-accepted es x a (eqb-true (callNumber es x) 0 e)
+  after-by false es x a e = a
+
+  after-accepted : (es : List Entry) (x : Call) → accepted es ≡ true → accepted (afterBy callNumber es x) ≡ true
+  unfolding afterBy
+  after-accepted es x a = after-by (eqb (callNumber es x) 0) es x a refl
+
+  same-from : (xs : List Call) (es : List Entry) → accepted es ≡ true → (numbersBy (numberIn n) es xs ≡ numbersBy callNumber es xs) × (journalBy (numberIn n) es xs ≡ journalBy callNumber es xs)
+  unfolding numbersBy journalBy
+  same-from [] es a = (refl, refl)
+  same-from (x ∷ xs) es a =
+      let more = same-from xs (afterBy callNumber es x) (after-accepted es x a) in
+      rw (same-number es x a, same-list es x a) (ap (λ (ns : List ℕ). callNumber es x ∷ ns) (more .0), more .1)
+
+  -- the numbers and the list are those of the journal
+  pub room-for-all : (xs : List Call) → (numbersIn n xs ≡ numbers xs) × (journalIn n xs ≡ journal.journal xs)
+  unfolding numbersIn journalIn numbers journal.journal accepted acceptedAfter
+  room-for-all xs = same-from xs [] refl

@@ -11,9 +11,9 @@ use Rattle.paper.specs.declared.Entry.{Entry}
 use Rattle.paper.specs.declared.CentreOfGravity.{CentreOfGravity}
 use Rattle.paper.specs.declared.Placard.{Placard}
 use Rattle.paper.specs.File.{numberOf}
-use Rattle.paper.specs.Refusals.{fileOf, readingNumber}
+use Rattle.paper.specs.Refusals.{fileOf, readingNumber, writingNumber}
 use Rattle.paper.specs.Answers.{centreRefused, centreAnswer, placardRefused, placardAnswer, writtenAnswer}
-use Rattle.paper.specs.Journal.{Call, read, callNumber, acceptedCall}
+use Rattle.paper.specs.Journal.{Call, read, callNumber, acceptedCall, journalBy, numbersBy}
 
 -- the bytes of a buffer that its file takes: four, and as many as these say
 unfoldable pub fileIn : List ℕ → List ℕ
@@ -44,6 +44,21 @@ lentCall x buffer = lentBy (heldIn buffer) x buffer
 -- reading back asks nothing of what stands, so the buffer may hold anything
 unfoldable pub lentRead : List ℕ → List ℕ → ℕ × List ℕ
 lentRead xs buffer = lentBy (some []) (read xs) buffer
+
+-- ---- a list of calls on a buffer of n bytes
+
+-- the number of a call on a list: the journal's, then 11 where the buffer is shorter than the file afterwards
+unfoldable pub numberIn : ℕ → List Entry → Call → ℕ
+numberIn n es x = cond (eqb (callNumber es x) 0) (writingNumber (acceptedCall es x) n) (callNumber es x)
+
+-- from a fresh record on, the list that stands after some calls, and the number of each
+unfoldable pub journalIn : ℕ → List Call → List Entry
+journalIn n xs = journalBy (numberIn n) [] xs
+
+unfoldable pub numbersIn : ℕ → List Call → List ℕ
+numbersIn n xs = numbersBy (numberIn n) [] xs
+
+-- ---- the calls that change no record
 
 -- centre of gravity
 unfoldable pub centreFor : Option (List Entry) → CentreOfGravity

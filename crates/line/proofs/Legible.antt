@@ -9,17 +9,9 @@ use Rattle.laws.specs.Lists.{parts-same}
 use Rattle.laws.specs.Spelled.{same-spelled}
 use Rattle.paper.specs.declared.Row.{Row}
 use Rattle.paper.specs.declared.Row.the-variants.{Range, Blank}
-use Rattle.paper.specs.Placard.{space, feed, digits, kilograms, ends, line}
+use Rattle.paper.specs.Placard.{space, feed, digits, kilograms, ends, line, Fits, RowFits}
 use Rattle.line.proofs.Length.{length-kilograms, length-pair, length-fields}
 use Rattle.numerals.proofs.Digits.{spelled, length-digits}
-
--- four digits of kilograms are enough
-abbrev pub Fits : ℕ → Type 0
-Fits n = n < 10000000
-
-abbrev pub RowFits : Row → Type 0
-RowFits (Range lo hi) = Fits lo × Fits hi
-RowFits Blank = Unit {0}
 
 digits-same : (k n m : ℕ) → n < 10 ^ k → m < 10 ^ k → digits k n ≡ digits k m → n ≡ m
 digits-same k n m h l e =

@@ -59,23 +59,29 @@ acceptedCall es (change x) = es ++ entry.Change x ∷ []
 acceptedCall es undo = withoutLast es
 acceptedCall es (read xs) = entriesOr es (fileOf xs)
 
--- the journal after a call: a call that gets a number leaves it as it was
-unfoldable pub afterCall : List Entry → Call → List Entry
-afterCall es x = cond (eqb (callNumber es x) 0) (acceptedCall es x) es
+-- ---- a list of calls, where `number` is the number that a call gets on a list
 
--- the journal after a list of calls, the first one first, that begins at a list
-unfoldable pub journalFrom : List Entry → List Call → List Entry
-journalFrom es [] = es
-journalFrom es (x ∷ xs) = journalFrom (afterCall es x) xs
+-- the list after a call: a call that gets a number leaves it as it was
+unfoldable pub afterBy : (List Entry → Call → ℕ) → List Entry → Call → List Entry
+afterBy number es x = cond (eqb (number es x) 0) (acceptedCall es x) es
+
+-- the list after some calls, the first one first, that begin at a list
+unfoldable pub journalBy : (List Entry → Call → ℕ) → List Entry → List Call → List Entry
+journalBy number es [] = es
+journalBy number es (x ∷ xs) = journalBy number (afterBy number es x) xs
 
 -- the number of each of them
-unfoldable pub numbersFrom : List Entry → List Call → List ℕ
-numbersFrom es [] = []
-numbersFrom es (x ∷ xs) = callNumber es x ∷ numbersFrom (afterCall es x) xs
+unfoldable pub numbersBy : (List Entry → Call → ℕ) → List Entry → List Call → List ℕ
+numbersBy number es [] = []
+numbersBy number es (x ∷ xs) = number es x ∷ numbersBy number (afterBy number es x) xs
 
--- from a fresh record on, the journal begins empty
+-- ---- the journal: it begins empty, and its numbers are the table's
+
+abbrev pub afterCall : List Entry → Call → List Entry
+afterCall es x = afterBy callNumber es x
+
 unfoldable pub journal : List Call → List Entry
-journal xs = journalFrom [] xs
+journal xs = journalBy callNumber [] xs
 
 unfoldable pub numbers : List Call → List ℕ
-numbers xs = numbersFrom [] xs
+numbers xs = numbersBy callNumber [] xs

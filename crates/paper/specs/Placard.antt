@@ -1,8 +1,9 @@
 -- "The placard": its bytes and its counts.
+use mathlib.Core.Path.{_≡_}
 use mathlib.Core.Bool.{cond}
 use mathlib.Core.List.{List, [], _∷_, _++_, map}
-use Prim.Native.Nat.{ℕ, zero, suc, _+_, _*_, _/_, _%_, _^_}
-use lib.ListN.{replicate}
+use Prim.Native.Nat.{ℕ, zero, suc, _+_, _*_, _/_, _%_, _^_, _<_}
+use lib.ListN.{replicate, take, drop}
 use Rattle.paper.specs.declared.Sheet.{Sheet}
 use Rattle.paper.specs.declared.Row.{Row}
 use Rattle.paper.specs.declared.Row.the-variants.{Range, Blank}
@@ -43,9 +44,28 @@ ends Blank = replicate 8 hyphen ++ space ∷ replicate 8 hyphen
 unfoldable pub line : ℕ → ℕ → Row → List ℕ
 line r w x = kilograms r ++ space ∷ kilograms w ++ space ∷ ends x ++ feed ∷ []
 
+-- four digits of kilograms are enough for a load, and for both ends of a row
+abbrev pub Fits : ℕ → Type 0
+Fits n = n < 10000000
+
+abbrev pub RowFits : Row → Type 0
+RowFits (Range lo hi) = Fits lo × Fits hi
+RowFits Blank = Unit {0}
+
+-- some bytes can be read as a rear load, water and a row: they are the line of them, and each fits its field
+pub record ReadAs (xs : List ℕ) (r w : ℕ) (x : Row) : Type 0 where
+  pub bytes : xs ≡ line r w x
+  pub rear : Fits r
+  pub water : Fits w
+  pub row : RowFits x
+
 -- how many bytes a line has
 abbrev pub lineLength : ℕ
 lineLength = 36
+
+-- the i-th line in a buffer
+abbrev pub lineIn : List ℕ → ℕ → List ℕ
+lineIn buffer i = take lineLength (drop (lineLength * i) buffer)
 
 -- the placard: a line for each row, in the rows' order
 unfoldable pub text : Sheet → Balance → List ℕ

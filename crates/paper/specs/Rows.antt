@@ -5,6 +5,7 @@ use mathlib.Core.Option.{Option, none, some}
 use Prim.Native.Nat.{ℕ, zero, suc, _+_, _*_, _/_, _%_}
 use lib.Dec.{leb, eqb}
 use lib.IntN.{ℤ, pos, _+ℤ_, _*ℤ_}
+use lib.ListN.{getD}
 use lib.Signed.{leZ}
 use Rattle.paper.specs.declared.Station.{Station}
 use Rattle.paper.specs.declared.Sheet.{Sheet}
@@ -121,3 +122,10 @@ joined (x ∷ xs) = x ++ joined xs
 -- rear load and water of each row: the rear load varies slowest, the water fastest, both rising
 unfoldable pub loads : Sheet → List (ℕ × ℕ)
 loads s = joined (map (λ (r : ℕ). map (λ (w : ℕ). (r, w)) (loadsOf (s .water))) (loadsOf (s .rear)))
+
+-- those of the i-th row, the first being the 0th
+abbrev pub rearOf : Sheet → ℕ → ℕ
+rearOf s i = getD (loads s) i (0, 0) .0
+
+abbrev pub waterOf : Sheet → ℕ → ℕ
+waterOf s i = getD (loads s) i (0, 0) .1

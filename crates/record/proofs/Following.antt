@@ -15,7 +15,7 @@ use Rattle.paper.specs.declared.Entry.the-variants as entry
 use Rattle.paper.specs.Refusals.{entryNumber, acceptedAfter, accepted, onlyAccepted, fileOf}
 use Rattle.paper.specs.File.{laidOut}
 use Rattle.paper.proofs.Lists.{last-apart}
-use Rattle.paper.specs.Journal.{Call, weigh, install, change, undo, read, callNumber, acceptedCall, afterCall, withoutLast, entriesOr}
+use Rattle.paper.specs.Journal.{Call, weigh, install, change, undo, read, callNumber, acceptedCall, afterBy, afterCall, withoutLast, entriesOr}
 use Rattle.record.specs.declared.Record.{Record}
 use Rattle.record.specs.declared.Kept.{Kept}
 use Rattle.record.specs.Held.{recordOf, heldBy, keptOr, answered}
@@ -66,7 +66,7 @@ number-by false n r es e = refl
 
 -- the record that a call answers holds the list after the call
 pub answered-list : (r : Record) (x : Call) → heldBy (answered r x .log) ≡ afterCall (heldBy r) x
-unfolding answered keptOr afterCall
+unfolding answered keptOr afterBy
 answered-list r x =
     let es = heldBy r in
     list-by (eqb (callNumber es x) 0) (callNumber es x) r (acceptedCall es x) refl (λ n. call-accepted es x (held-accepted r) n)

@@ -21,7 +21,7 @@ use Rattle.paper.specs.File.{bytesOf, numberOf, fieldBytes, fieldValue, layoutO
 use Rattle.paper.specs.Refusals.{firstNumber, full, isTotal, isNonLifting, badReading, badDistance, weighingFaults, weighingNumber, badArms, badRanges, badRows, sheetFaults, sheetNumber, isNone, changeFaults, changeNumber}
 use Rattle.paper.specs.Refusals.{undoNumber, placardTooLong, placardNumber, entryNumber, acceptedAfter, accepted, fileOf, readingNumber}
 use Rattle.paper.specs.Answers.{over, placardGiven, placardRefused, placardAnswer}
-use Rattle.paper.specs.Journal.{Call, weigh, install, change, undo, read, callNumber, withoutLast, acceptedCall, afterCall, journalFrom, numbersFrom, journal, numbers}
+use Rattle.paper.specs.Journal.{Call, weigh, install, change, undo, read, callNumber, withoutLast, acceptedCall, afterBy, journalBy, numbersBy, journal, numbers}
 use Rattle.worked.specs.Plates.{minus, blanik, blanikSheet, astir, astirSheet, G, J}
 use Rattle.worked.specs.Table.{printed}
 
@@ -103,9 +103,9 @@ calls =
     change (record { c = pos 1; arm = pos 0; flag = 0 }) ∷ weigh blanik ∷ install blanikSheet ∷ undo ∷ read (0 ∷ 0 ∷ 0 ∷ 2 ∷ 1 ∷ 0 ∷ []) ∷ undo ∷ []
 
 calls-numbers : numbers calls ≡ 7 ∷ 0 ∷ 0 ∷ 0 ∷ 0 ∷ 10 ∷ []
-unfolding numbers numbersFrom callNumber afterCall acceptedCall withoutLast undoNumber readingNumber read-back balanceOf lastWeighing changesOf orElse isNone calls
+unfolding numbers numbersBy callNumber afterBy acceptedCall withoutLast undoNumber readingNumber read-back balanceOf lastWeighing changesOf orElse isNone calls
 calls-numbers = refl
 
 calls-journal : journal calls ≡ []
-unfolding journal journalFrom callNumber afterCall acceptedCall withoutLast undoNumber readingNumber read-back balanceOf lastWeighing changesOf orElse isNone calls
+unfolding journal journalBy callNumber afterBy acceptedCall withoutLast undoNumber readingNumber read-back balanceOf lastWeighing changesOf orElse isNone calls
 calls-journal = refl
