@@ -1,7 +1,8 @@
--- Demand 3 and what its proof rests on: one call more of a list, and how a placard call ends. Then what is read off a placard,
--- and the records that lists of calls give.
+-- Demand 3 and what its proof rests on: one call more of a list, how a placard call ends, and what a given placard prints. Then
+-- the claims about every list of calls, on a record and of the library to link, and the records that lists of calls give.
 pub mod Calls
 pub mod Endings
-pub mod Demand3
 pub mod Printed
+pub mod Demand3
+pub mod RecordCalls
 pub mod Records

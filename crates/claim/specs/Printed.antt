@@ -1,53 +1,64 @@
--- What is read off a given placard is what demand 3 speaks of: a line of the buffer can be read in one way only, and it says
--- the row of its loads. Assumes nothing.
+-- What a given placard prints: each line is that of its row and can be read in one way only, so what the laws of rows say holds
+-- of whatever is read off it. Assumes nothing.
 use mathlib.Core.Path.{_≡_, refl, sym, ap, _∙_}
-use mathlib.Core.Bool.{true}
+use mathlib.Core.Bool.{true, false}
 use mathlib.Core.List.{List}
-use Prim.Native.Nat.{ℕ, _*_, _≤_, _<_}
+use mathlib.Core.Option.{some}
+use Prim.Native.Nat.{ℕ, _≤_, _<_}
 use native.Mathlib.Omega.{arith}
-use lib.ListN.{take, drop}
-use denote.Ref.{RefT, now}
+use lib.ListN.{getD}
 use Rattle.paper.specs.declared.Sheet.{Sheet}
 use Rattle.paper.specs.declared.Row.{Row}
 use Rattle.paper.specs.declared.Row.the-variants.{Range, Blank}
-use Rattle.paper.specs.declared.Placard.{Placard}
-use Rattle.paper.specs.Record.{Balance}
-use Rattle.paper.specs.Rows.{row, rowCount}
-use Rattle.paper.specs.Placard.{line, lineLength}
+use Rattle.paper.specs.declared.Entry.{Entry}
+use Rattle.paper.specs.Record.{Balance, sheetOf}
+use Rattle.paper.specs.Rows.{row, rowCount, loads, rearOf, waterOf, isStep, keeps, breaksAt, inRange, misses, isBlank}
+use Rattle.paper.specs.Placard.{text, line, lineIn, RowFits, ReadAs}
 use Rattle.paper.specs.Answers.{over}
 use Rattle.paper.specs.Refusals.{accepted}
-use Rattle.paper.specs.Journal.{Call, journal}
+use Rattle.paper.proofs.Lists.{below-at}
 use Rattle.sheet.proofs.Accepted.{accepted-sheet}
-use Rattle.planes.proofs.Rows.{range-most}
-use Rattle.line.proofs.Legible.{Fits, RowFits, legible}
-use Rattle.record.specs.declared.Record.{Record}
-use Rattle.record.proofs.Replays.{held-accepted}
-use Rattle.plate.specs.Numbered.{rearAt, waterAt}
 use Rattle.sheet.proofs.Lists.{sheet-accepted}
-use Rattle.plate.proofs.Rows.{rear-most, water-most, line-at}
-use Rattle.plate.proofs.placard.Reads as placard
-use Rattle.claim.specs.Demand3.{Trace, WhereStand, follows, demand-3}
+use Rattle.planes.proofs.Rows as rows
+use Rattle.plate.specs.Numbered.{rearAt, waterAt, lineAt}
+use Rattle.plate.proofs.Rows.{loads-by-index, rear-most, water-most, line-at}
 
 -- every row fits its fields
 row-fits : (s : Sheet) (b : Balance) (r w : ℕ) → s .front .most ≤ 500000 → RowFits (row s b r w)
 row-fits s b r w h = by (row s b r w) refl
   where
     by : (x : Row) → row s b r w ≡ x → RowFits x
-    by (Range lo hi) e = let m = range-most s b r w lo hi e in (omega (arith, m .0), omega (arith, m .1))
+    by (Range lo hi) e = let m = rows.range-most s b r w lo hi e in (omega (arith, m .0), omega (arith, m .1))
     by Blank e = tt
 
--- Whoever reads a rear load, a water and a row off the i-th line of a given placard reads the i-th row's loads, and the row
--- that the definitions work out for them.
-pub read-off : {calls : List Call} {r : Record} {answers : List ℕ} → Trace calls r answers
-    → (κs : _) (o o′ : RefT (List ℕ)) (a : Placard) → placard.Post κs (r, (o, tt)) a (r, (o′, tt))
-    → WhereStand calls (λ s b. a .number ≡ 0 → (i : ℕ) → i < rowCount s
-    → (rear water : ℕ) (x : Row) → Fits rear → Fits water → RowFits x → take lineLength (drop (lineLength * i) (now o′)) ≡ line rear water x
-    → (rear ≡ rearAt s i) × (water ≡ waterAt s i) × (x ≡ row s b rear water))
+-- the i-th row's loads, by its number
+loads-at : (s : Sheet) (i : ℕ) → i < rowCount s → getD (loads s) i (0, 0) ≡ (rearAt s i, waterAt s i)
+loads-at s i h = rw (loads-by-index s) (below-at (λ (j : ℕ). (rearAt s j, waterAt s j)) (rowCount s) i (0, 0) h)
+
+-- the i-th line says the i-th row
+pub line-read : (es : List Entry) → accepted es ≡ true → (lent left : List ℕ) (s : Sheet) (b : Balance) → sheetOf es ≡ some s → left ≡ over (text s b) lent
+    → (i : ℕ) → i < rowCount s → ReadAs (lineIn left i) (rearOf s i) (waterOf s i) (row s b (rearOf s i) (waterOf s i))
 unfolding over
-read-off {calls} {r} t κs o o′ a call s b e w n i h rear water x fr fw fx l =
-    let kept : accepted (journal calls) ≡ true = rw (follows t .list) at (held-accepted r) in
-    let ranges = accepted-sheet s (sheet-accepted (journal calls) s kept e) .ranges in
-    let left = demand-3 t κs o o′ a call .buffer s b e w n in
-    let there = sym l ∙ ap (λ (xs : List ℕ). take lineLength (drop (lineLength * i) xs)) left ∙ line-at s b i _ h in
-    let same = legible rear water (rearAt s i) (waterAt s i) x (row s b (rearAt s i) (waterAt s i)) fr fw (omega (arith, rear-most s i h, ranges .rear)) (omega (arith, water-most s i, ranges .water)) fx (row-fits s b (rearAt s i) (waterAt s i) (ranges .front)) there in
-    (same .0, same .1, rw (same .0, same .1) (same .2))
+line-read es ok lent left s b e l i h =
+    let ranges = accepted-sheet s (sheet-accepted es s ok e) .ranges in
+    let rear : rearOf s i ≡ rearAt s i = ap (λ (p : ℕ × ℕ). p .0) (loads-at s i h) in
+    let water : waterOf s i ≡ waterAt s i = ap (λ (p : ℕ × ℕ). p .1) (loads-at s i h) in
+    rw (rear, water)
+    (record {
+      bytes = ap (λ (xs : List ℕ). lineIn xs i) l ∙ line-at s b i _ h;
+      rear = omega (arith, rear-most s i h, ranges .rear);
+      water = omega (arith, water-most s i, ranges .water);
+      row = row-fits s b (rearAt s i) (waterAt s i) (ranges .front);
+    })
+
+-- ---- the clauses of rows, of a row that is read
+
+module _ (s : Sheet) (b : Balance) (r w : ℕ) (x : Row) (e : x ≡ row s b r w) where
+  pub none-breaks : (p v : ℕ) → isStep s p ≡ true → inRange p x ≡ true → v ≤ w → breaksAt s b r p v ≡ false
+  none-breaks p v step range h = rows.none-breaks s b r w p v step (rw e at range) h
+
+  pub none-missed : (p : ℕ) → misses s b r w x p ≡ false
+  none-missed p = rw e (rows.none-missed s b r w p)
+
+  pub blank-exactly : (isBlank x ≡ true → (p : ℕ) → keeps s b r w p ≡ false) × (((p : ℕ) → keeps s b r w p ≡ false) → isBlank x ≡ true)
+  blank-exactly = rw e (rows.blank-none s b r w, rows.none-blank s b r w)

@@ -14,7 +14,7 @@ use Rattle.record.specs.Held.{recordOf, heldBy}
 use Rattle.file.proofs.write.Reads as write
 use Rattle.file.proofs.read.Reads as read
 use Rattle.file.proofs.RoundTrips.{written-then-read}
-use Rattle.claim.specs.Demand3.{Trace, follows}
+use Rattle.claim.specs.RecordCalls.{Trace, follows}
 
 -- a list of calls leaves the record of its journal
 pub journal-record : {calls : List Call} {r : Record} {answers : List ℕ} → Trace calls r answers → r ≡ recordOf (journal calls)

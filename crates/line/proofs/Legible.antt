@@ -1,7 +1,7 @@
 -- A line can be read in one way only: its fields have their places, and each field's digits give back its number. So what a
 -- placard prints of a row is that row and no other. Assumes nothing.
-use mathlib.Core.Path.{_≡_, refl, sym}
-use mathlib.Core.List.{[], _∷_, _++_, head-eq-of-cons-eq, tail-eq-of-cons-eq}
+use mathlib.Core.Path.{_≡_, refl, sym, _∙_}
+use mathlib.Core.List.{List, [], _∷_, _++_, head-eq-of-cons-eq, tail-eq-of-cons-eq}
 use Prim.Native.Nat.{ℕ, _/_, _%_, _^_, _<_}
 use native.Mathlib.Nat.{mod-eq-of-lt}
 use native.Mathlib.Omega.{arith}
@@ -9,7 +9,7 @@ use Rattle.laws.specs.Lists.{parts-same}
 use Rattle.laws.specs.Spelled.{same-spelled}
 use Rattle.paper.specs.declared.Row.{Row}
 use Rattle.paper.specs.declared.Row.the-variants.{Range, Blank}
-use Rattle.paper.specs.Placard.{space, feed, digits, kilograms, ends, line, Fits, RowFits}
+use Rattle.paper.specs.Placard.{space, feed, digits, kilograms, ends, line, Fits, RowFits, ReadAs}
 use Rattle.line.proofs.Length.{length-kilograms, length-pair, length-fields}
 use Rattle.numerals.proofs.Digits.{spelled, length-digits}
 
@@ -43,12 +43,12 @@ ends-same (Range a b) Blank h l e = absurd (no-hyphens a b e)
 ends-same Blank (Range c d) h l e = absurd (no-hyphens c d (sym e))
 ends-same Blank Blank h l e = refl
 
-pub legible : (r w r′ w′ : ℕ) (x y : Row) → Fits r → Fits w → Fits r′ → Fits w′ → RowFits x → RowFits y → line r w x ≡ line r′ w′ y → (r ≡ r′) × (w ≡ w′) × (x ≡ y)
+pub legible : {xs : List ℕ} {r w r′ w′ : ℕ} {x y : Row} → ReadAs xs r w x → ReadAs xs r′ w′ y → (r ≡ r′) × (w ≡ w′) × (x ≡ y)
 unfolding line
-legible r w r′ w′ x y fr fw gr gw fx fy e =
+legible {r = r} {w} {r′} {w′} {x} {y} p q =
     let a = kilograms r ++ space ∷ kilograms w in
     let b = kilograms r′ ++ space ∷ kilograms w′ in
-    let fields = parts-same 35 (a ++ space ∷ ends x) (b ++ space ∷ ends y) (feed ∷ []) (feed ∷ []) (length-fields r w x) (length-fields r′ w′ y) e .0 in
+    let fields = parts-same 35 (a ++ space ∷ ends x) (b ++ space ∷ ends y) (feed ∷ []) (feed ∷ []) (length-fields r w x) (length-fields r′ w′ y) (sym (p .bytes) ∙ q .bytes) .0 in
     let halves = parts-same 17 a b (space ∷ ends x) (space ∷ ends y) (length-pair r w) (length-pair r′ w′) fields in
-    let loads = pair-same r w r′ w′ fr fw gr gw (halves .0) in
-    (loads .0, loads .1, ends-same x y fx fy (tail-eq-of-cons-eq (halves .1)))
+    let loads = pair-same r w r′ w′ (p .rear) (p .water) (q .rear) (q .water) (halves .0) in
+    (loads .0, loads .1, ends-same x y (p .row) (q .row) (tail-eq-of-cons-eq (halves .1)))

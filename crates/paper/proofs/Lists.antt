@@ -1,4 +1,4 @@
--- Lists over 0, 1, .. n - 1: one more of them, lists one behind the other, a list without its last, and a
+-- Lists over 0, 1, .. n - 1: one more of them and the i-th, lists one behind the other, a list without its last, and a
 -- list of lists by one index. Assumes nothing.
 use mathlib.Core.Path.{_≡_, refl, sym, ap, _∙_}
 use mathlib.Core.List.{List, [], _∷_, _++_, map, append-assoc, append-nil, map-map}
@@ -7,9 +7,9 @@ use Prim.Native.Nat.{ℕ, zero, suc, _+_, _*_, _/_, _%_, _≤_, _<_}
 use native.Mathlib.Nat.{eq-or-lt-of-le}
 use native.Mathlib.Omega.{arith}
 use lib.Arith.{digits-div, digits-mod}
-use lib.ListN.{length, take, drop, length-append}
-use lib.Seq.{take-at, drop-at}
-use Rattle.laws.specs.Lists.{map-append}
+use lib.ListN.{length, take, drop, getD, length-append, List·getD-append}
+use lib.Seq.{take-at, drop-at, getD-at}
+use Rattle.laws.specs.Lists.{map-append, length-more}
 use Rattle.paper.specs.Rows.{below, joined}
 use Rattle.paper.specs.Journal.{withoutLast}
 
@@ -24,6 +24,20 @@ unfolding below
 map-below f g zero h = refl
 map-below f g (suc n) h =
     rw (map-below-more f n, map-below-more g n, map-below f g n (λ i k. h i (omega arith)), h n (omega arith))
+
+pub length-below : {A : Type 0} (f : ℕ → A) (n : ℕ) → length (map f (below n)) ≡ n
+unfolding below
+length-below f zero = refl
+length-below f (suc n) = rw (map-below-more f n) (omega (arith, length-more (map f (below n)) (f n), length-below f n))
+
+-- the i-th of them
+pub below-at : {A : Type 0} (f : ℕ → A) (n i : ℕ) (d : A) → i < n → getD (map f (below n)) i d ≡ f i
+below-at f zero i d h = absurd (omega arith)
+below-at f (suc n) i d h =
+    rw (map-below-more f n)
+    (⊎-elim (λ (e : i ≡ n). rw e (getD-at (map f (below n)) (f n) [] d n (length-below f n)))
+    (λ (m : i < n). List·getD-append (map f (below n)) (f n ∷ []) d i (omega (arith, length-below f n)) ∙ below-at f n i d m)
+    (eq-or-lt-of-le (omega arith)))
 
 -- the next m behind the first n
 pub below-add : (n m : ℕ) → below (n + m) ≡ below n ++ map (λ (j : ℕ). n + j) (below m)

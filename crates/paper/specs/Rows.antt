@@ -92,9 +92,9 @@ abbrev pub inRange : ℕ → Row → Bool
 inRange p (Range lo hi) = leb lo p && leb p hi
 inRange p Blank = false
 
--- the row of rear load r and water w misses a step: it keeps every limit and is in no range that the row prints
-unfoldable pub misses : Sheet → Balance → ℕ → ℕ → ℕ → Bool
-misses s b r w p = keeps s b r w p && not (inRange p (row s b r w))
+-- a row x that is printed for rear load r and water w misses a step: it keeps every limit and is in no range of x
+unfoldable pub misses : Sheet → Balance → ℕ → ℕ → Row → ℕ → Bool
+misses s b r w x p = keeps s b r w p && not (inRange p x)
 
 abbrev pub isBlank : Row → Bool
 isBlank (Range lo hi) = false

@@ -78,7 +78,7 @@ none-breaks s b r w p v step range h =
     breaks-none s b r p v (keeps-at s b r w p (kept-steps s b r w p ∙ both (isStep s p) (inRange p (row s b r w)) step range) v h)
 
 -- no row misses a step that keeps every limit
-pub none-missed : (s : Sheet) (b : Balance) (r w p : ℕ) → misses s b r w p ≡ false
+pub none-missed : (s : Sheet) (b : Balance) (r w p : ℕ) → misses s b r w (row s b r w) p ≡ false
 unfolding misses
 none-missed s b r w p =
     ap (λ (k : Bool). k && not (inRange p (row s b r w))) (kept-steps s b r w p) ∙ and-not (isStep s p) (inRange p (row s b r w))
