@@ -5,4 +5,5 @@ pub mod Endings
 pub mod Printed
 pub mod Demand3
 pub mod RecordCalls
+pub mod LibraryCalls
 pub mod Records
