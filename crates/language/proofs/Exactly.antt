@@ -9,6 +9,7 @@ use lib.Dec.{eqb}
 use lib.IntN.{ℤ, pos, natAbs}
 use lib.ListN.{length, replicate, drop, getD}
 use lib.Seq.{take-at, take-all}
+use denote.Ref.{now}
 use borrow.Author.Tests.{eq-eqb, eqb-true}
 use Rattle.bytes.specs.Bytes.{indexOf}
 use Rattle.laws.specs.Equal.{eqList, same-list, list-same}
@@ -28,6 +29,7 @@ use Rattle.language.specs.declared.Line.{Line}
 use Rattle.language.specs.declared.Line.the-variants as line
 use Rattle.language.specs.Lines.{undoText, passedOver, Means, kindNamed, firstWord, otherWords, valuesFrom, candidate, says}
 use Rattle.language.proofs.Candidates.{candidate-readable}
+use Rattle.language.proofs.read_line.Reads as read-line
 
 -- ---- words
 
@@ -200,3 +202,7 @@ meant-is-said xs line.Passed m = passes xs m
 meant-is-said xs line.Undo m = ap says m ∙ says-undo
 meant-is-said xs (line.Entry e) m = ap says (m .0) ∙ says-text e (m .1)
 meant-is-said xs line.NotUnderstood m = unknown-said xs (says xs) refl m
+
+-- What `language::read_line` answers is what the line means, and a line has no other meaning.
+pub read-as-meant : (κs : _) (i i′ : _) (l : Line) → read-line.Post κs (i, tt) l (i′, tt) → Means (now i) l × ((m : Line) → Means (now i) m → m ≡ l)
+read-as-meant κs i i′ l h = (said-is-meant (now i) l (sym h), λ m k. sym (meant-is-said (now i) m k) ∙ sym h)

@@ -1,0 +1,127 @@
+-- The guarantees, in README's order ("What is proved"): each stated in full, and proved by the theorem that it cites. The
+-- hypotheses are lists of calls as they run and single calls, by the calls' own promises: `read.Post` is what the contract of
+-- `file::read` promises of one call (its arguments, its answer, the arguments as it leaves them), and so with the others. What the
+-- words mean is in crates/paper/specs, and for the logbook and the library in crates/language/specs, crates/book/specs and
+-- crates/lent/specs; docs/ARCHITECTURE.md leads from the paper to each of them. Assumes nothing.
+use mathlib.Core.Path.{_≡_}
+use mathlib.Core.Bool.{true}
+use mathlib.Core.List.{List}
+use Prim.Native.Nat.{ℕ, _≤_}
+use lib.ListN.{length, take}
+use denote.Ref.{RefT, now}
+use Rattle.laws.specs.Lists.{Each}
+use Rattle.laws.specs.Splits.{split}
+use Rattle.paper.specs.declared.Entry.{Entry}
+use Rattle.paper.specs.declared.Placard.{Placard}
+use Rattle.paper.specs.declared.Written.{Written}
+use Rattle.paper.specs.Placard.{feed}
+use Rattle.paper.specs.File.{fileBytes}
+use Rattle.paper.specs.Refusals.{accepted}
+use Rattle.paper.specs.Answers.{over}
+use Rattle.paper.specs.Journal.{Call, journal, numbers}
+use Rattle.record.specs.declared.Record.{Record}
+use Rattle.record.specs.declared.Kept.{Kept}
+use Rattle.record.specs.Held.{recordOf, heldBy}
+use Rattle.file.proofs.write.Reads as write
+use Rattle.file.proofs.read.Reads as read
+use Rattle.file.proofs.RoundTrips.{accepts-files, accepts-only-files, read-then-written}
+use Rattle.plate.proofs.placard.Reads as placard
+use Rattle.lent.specs.Lent.{numbersIn, journalIn}
+use Rattle.lent.proofs.Runs.{room-for-all}
+use Rattle.nodhulika.proofs.nodhulika_placard.Reads as library-placard
+use Rattle.language.specs.declared.Line.{Line}
+use Rattle.language.specs.Lines.{Means}
+use Rattle.language.proofs.Exactly as exactly
+use Rattle.language.proofs.read_line.Reads as read-line
+use Rattle.book.specs.declared.Reading.{Reading}
+use Rattle.book.specs.declared.Ending.the-variants.{Whole}
+use Rattle.book.proofs.Journals.{callsOf, whole-book}
+use Rattle.book.proofs.read.Reads as read-book
+use Rattle.listing.proofs.show.Reads as show
+use Rattle.listing.proofs.ReadAgain as read-again
+use Rattle.worked.specs.Table.{table, Says, A-to-K}
+use Rattle.claim.specs.Demand3.{Demand3}
+use Rattle.claim.specs.RecordCalls as on-record
+use Rattle.claim.specs.LibraryCalls as of-library
+use Rattle.claim.specs.Records as records
+
+-- ---- the whole list
+
+-- Demand 3: every list of calls from a fresh record, and a placard after it on any buffer.
+pub demand-3 : {calls : List Call} {r : Record} {answers : List ℕ} → on-record.Trace calls r answers
+    → (κs : _) (o o′ : RefT (List ℕ)) (a : Placard) → placard.Post κs (r, (o, tt)) a (r, (o′, tt))
+    → Demand3 (numbers calls) (journal calls) answers (now o) a (now o′)
+demand-3 = on-record.demand-3
+
+-- It is about something: every list of calls has a trace, and a placard call after it.
+pub every-list-runs : (calls : List Call) (lent : List ℕ) → on-record.Run calls lent
+every-list-runs = on-record.every-list-runs
+
+-- A list of calls leaves the record of its journal, whatever was refused on the way.
+pub journal-record : {calls : List Call} {r : Record} {answers : List ℕ} → on-record.Trace calls r answers → r ≡ recordOf (journal calls)
+journal-record = records.journal-record
+
+-- ---- files
+
+-- A record that a list of calls gave, written into any buffer that holds it and read back from those bytes, is the same record.
+pub written-then-read : {calls : List Call} {r : Record} {answers : List ℕ} → on-record.Trace calls r answers
+    → (κs : _) (o o′ : RefT (List ℕ)) (a : Written) → write.Post κs (r, (o, tt)) a (r, (o′, tt)) → length (fileBytes (heldBy r)) ≤ length (now o)
+    → (q : Record) (λs : _) (i i′ : RefT (List ℕ)) (k : Kept) → read.Post λs (q, (i, tt)) k (q, (i′, tt)) → now i ≡ take (a .length) (now o′)
+    → k ≡ record { number = 0; log = r }
+written-then-read = records.saved-and-read
+
+-- Bytes that reading accepts are written again as they were.
+pub read-then-written-again : (q : Record) (κs : _) (i i′ : _) (k : Kept) → read.Post κs (q, (i, tt)) k (q, (i′, tt)) → k .number ≡ 0
+    → (λs : _) (o o′ : _) (a : Written) → write.Post λs (k .log, (o, tt)) a (k .log, (o′, tt)) → length (now i) ≤ length (now o)
+    → (a ≡ record { number = 0; length = length (now i) }) × (now o′ ≡ over (now i) (now o))
+read-then-written-again = read-then-written
+
+-- Reading accepts the files of the lists that accepted calls give, and nothing else.
+pub every-file-accepted : (q : Record) (κs : _) (i i′ : _) (k : Kept) → read.Post κs (q, (i, tt)) k (q, (i′, tt))
+    → (es : List Entry) → accepted es ≡ true → now i ≡ fileBytes es → k ≡ record { number = 0; log = recordOf es }
+every-file-accepted = accepts-files
+
+pub only-files-accepted : (q : Record) (κs : _) (i i′ : _) (k : Kept) → read.Post κs (q, (i, tt)) k (q, (i′, tt))
+    → k .number ≡ 0 → (es : List Entry) × (accepted es ≡ true) × (now i ≡ fileBytes es) × (k .log ≡ recordOf es)
+only-files-accepted = accepts-only-files
+
+-- ---- logbooks
+
+-- What `language::read_line` answers is what the line means, and a line has no other meaning.
+pub line-read-as-meant : (κs : _) (i i′ : _) (l : Line) → read-line.Post κs (i, tt) l (i′, tt) → Means (now i) l × ((m : Line) → Means (now i) m → m ≡ l)
+line-read-as-meant = exactly.read-as-meant
+
+-- A logbook that `book::read` takes to its end gives the record of the journal of its lines' calls, each of them accepted.
+pub book-is-its-journal : (κs : _) (i i′ : _) (k : Reading) → read-book.Post κs (i, tt) k (i′, tt) → k .ending ≡ Whole
+    → (k .log ≡ recordOf (journal (callsOf (split feed (now i))))) × Each (λ (n : ℕ). n ≡ 0) (numbers (callsOf (split feed (now i))))
+book-is-its-journal = whole-book
+
+-- A record that a list of calls gave, shown and its listing read as a logbook, is the same record.
+pub shown-then-read : {calls : List Call} {r : Record} {answers : List ℕ} → on-record.Trace calls r answers
+    → (κs : _) (o o′ : _) (a : Written) → show.Post κs (r, (o, tt)) a (r, (o′, tt)) → a .number ≡ 0
+    → (λs : _) (i i′ : _) (k : Reading) → read-book.Post λs (i, tt) k (i′, tt) → now i ≡ take (a .length) (now o′)
+    → k ≡ record { log = r; ending = Whole }
+shown-then-read {r = r} t = read-again.shown-then-read r (on-record.follows t .made)
+
+-- ---- the library to link
+
+-- Demand 3 once more: every list of its calls on a lent buffer, and a placard after it. The journal's numbers, and 11 where the
+-- buffer has no room for the file afterwards.
+pub library-demand-3 : {n : ℕ} {calls : List Call} {buffer answers : List ℕ} → of-library.Trace n calls buffer answers
+    → (κs : _) (i i′ o o′ c c′ : RefT (List ℕ)) (k : ℕ) → now i ≡ buffer → library-placard.Post κs (i, (o, (c, tt))) k (i′, (o′, (c′, tt)))
+    → of-library.LibraryDemand3 n calls answers (now o) (now c) k (now o′) (now c′)
+library-demand-3 = of-library.demand-3
+
+-- With room for every file, which 3,910 bytes are, it is the journal itself.
+pub with-room-the-journal : (n : ℕ) → 3910 ≤ n → (calls : List Call) → (numbersIn n calls ≡ numbers calls) × (journalIn n calls ≡ journal calls)
+with-room-the-journal = room-for-all
+
+-- It is about something: every list of calls has a trace on every buffer that a fresh record fits.
+pub every-library-list-runs : (calls : List Call) (first lent counts : List ℕ) → 6 ≤ length first → of-library.Run calls first lent counts
+every-library-list-runs = of-library.every-list-runs
+
+-- ---- worked cases
+
+-- The paper's cases A to K, and further ones, computed from the definitions.
+pub worked-cases : Each Says table
+worked-cases = A-to-K

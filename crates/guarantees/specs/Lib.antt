@@ -1,0 +1,2 @@
+-- What is guaranteed, on one page.
+pub mod Guarantees

@@ -1,0 +1,1 @@
+// The guarantees, on one page: specs/Guarantees.antt. No code of its own.
