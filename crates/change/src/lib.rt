@@ -3,6 +3,7 @@ use balance::Balance;
 use laws::Sides;
 use paper::Arm;
 use paper::Change;
+use paper::Weight;
 ghost use mathlib.Core.Path.{_≡_};
 ghost use mathlib.Core.Bool.{cond};
 ghost use mathlib.Core.Option.{some};
@@ -19,10 +20,10 @@ ghost use Rattle.balance.specs.Balance.{twoProducts, plain, Ranged};
 fn in_range(x: Change) -> bool
     ensures { λ r. ⌜ r ≡ isChange x ⌝ }
 {
-    if x.c < -2_000_000 {
+    if x.c < Weight::SIGNED_LEAST {
         return false;
     }
-    if 2_000_000 < x.c {
+    if Weight::SIGNED_MOST < x.c {
         return false;
     }
     if x.c == 0 {
@@ -86,7 +87,7 @@ pub fn number(b: Balance, x: Change) -> u64
         return 6;
     }
     let total = gained(b.total, x.c);
-    if !within(1, 2_000_000, total) {
+    if !within(1, Weight::SIGNED_MOST, total) {
         return 6;
     }
     if !within(0, total, gained(b.nonlifting, counted(x))) {

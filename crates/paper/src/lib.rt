@@ -6,6 +6,9 @@ ghost use Rattle.paper.specs.Units.{isArm};
 // How many entries a record may hold.
 pub const CAPACITY: usize = 64;
 
+// How many rows a placard may have.
+pub const MOST_ROWS: u64 = 256;
+
 // Whole grams.
 pub struct Weight {
     pub grams: u64,
@@ -13,6 +16,12 @@ pub struct Weight {
 
 impl Weight {
     pub const MOST: u64 = 2_000_000;
+
+    // Either way with a sign: what a change may add or take out, and the most that it may leave.
+    pub const SIGNED_LEAST: i64 = -Weight::SIGNED_MOST;
+
+    pub const SIGNED_MOST: i64 = Weight::MOST as i64;
+
     // The most that a seat's load and its step may be.
     pub const SEAT: u64 = 500_000;
 }
@@ -23,9 +32,12 @@ pub struct Arm {
 }
 
 impl Arm {
-    pub const LEAST: i64 = -2_000_000;
+    pub const LEAST: i64 = -Arm::MOST;
 
     pub const MOST: i64 = 2_000_000;
+
+    // A distance has no sign.
+    pub const DISTANCE_MOST: u64 = Arm::MOST as u64;
 
     pub fn holds(hundredths: i64) -> bool
         ensures { λ r. ⌜ r ≡ isArm hundredths ⌝ }

@@ -29,8 +29,8 @@ ghost use Rattle.record.specs.Held.{slotted, heldBy};
 ghost use Rattle.planes.specs.Plane.{allHold, Small};
 ghost use Rattle.plate.specs.Numbered.{rears, waters as Numbered·waters, blanks, linesTo, blanksTo};
 
-// The longest placard: 256 lines.
-pub const LONGEST: usize = 9216;
+// The longest placard.
+pub const LONGEST: usize = LINE * paper::MOST_ROWS as usize;
 
 // How many bytes a line has.
 const LINE: usize = 36;

@@ -1,6 +1,7 @@
 // A data sheet's number of refusal, by the sheet alone, and the sheet in force.
 use paper::Arm;
 use paper::Entry;
+use paper::MOST_ROWS;
 use paper::Sheet;
 use paper::Station;
 use paper::Weight;
@@ -94,7 +95,7 @@ fn bad_rows(s: Sheet) -> bool
     if !step_holds(s.water, Weight::MOST) {
         return true;
     }
-    256 < laws::times(loads(s.rear), loads(s.water))
+    MOST_ROWS < laws::times(loads(s.rear), loads(s.water))
 }
 
 // The number of refusal behind 9.

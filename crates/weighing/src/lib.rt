@@ -70,7 +70,7 @@ fn bad_distance(w: Weighing) -> bool
     if w.b < 1 {
         return true;
     }
-    Weight::MOST < w.b
+    Arm::DISTANCE_MOST < w.b
 }
 
 // G.
