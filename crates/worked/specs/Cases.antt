@@ -25,27 +25,6 @@ use Rattle.paper.specs.Journal.{Call, weigh, install, change, undo, read, callN
 use Rattle.worked.specs.Plates.{minus, blanik, blanikSheet, astir, astirSheet, G, J}
 use Rattle.worked.specs.Table.{printed}
 
--- ---- J's placard: bytes behind the last line stay; one byte too few is 11, and the buffer as lent
-
-J-placard : List ℕ → Placard × List ℕ
-unfolding placardAnswer placardGiven placardRefused over placardNumber placardTooLong firstNumber isNone sheetOf balanceOf lastWeighing changesOf changedBy orElse text textLength blankCount blankOf rowCount loads loadsOf joined below line kilograms digits ends row rowOf smallest largest keeps isStep upTo keepsAt all lines weightWith momentWith weighed totalOf momentOf
-J-placard buffer = placardAnswer J buffer
-
-J-given : J-placard (replicate 110 7) ≡ (
-  record { number = 0; bytes = 108; rows = 3; blank = 0 },
-  printed (
-      "0000.000 0000.000 0069.000 0110.000" ∷
-      "0055.000 0000.000 0054.000 0109.000" ∷
-      "0110.000 0000.000 0040.000 0080.000" ∷ []
-      ) ++ 7 ∷ 7 ∷ [],
-)
-unfolding J-placard
-J-given = refl
-
-J-short : J-placard (replicate 107 7) ≡ (record { number = 11; bytes = 0; rows = 0; blank = 0 }, replicate 107 7)
-unfolding J-placard
-J-short = refl
-
 -- ---- judging water with the tank full only: G's second row would begin at 64 kg, and that step breaks a limit with none
 
 fullOnly : Sheet → Balance → ℕ → ℕ → Row

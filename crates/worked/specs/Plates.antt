@@ -66,3 +66,40 @@ I = entry.Weighing astir ∷ entry.Sheet (astirSheet (pos 41625)) ∷ []
 
 abbrev pub J : List Entry
 J = entry.Weighing blanik ∷ entry.Sheet blanikSheet ∷ []
+
+-- two lists beside the paper's, with loads that are no whole kilograms: the Astir with the front load in quarters of a kilogram
+abbrev pub quarters : List Entry
+quarters =
+    entry.Weighing astir ∷
+    entry.Sheet
+    (record {
+      fwd = pos 25000;
+      aft = pos 42500;
+      dry = 380000;
+      wet = 400000;
+      nlp = 240000;
+      front = station (minus 47500) 91375 250;
+      least = 55125;
+      rear = station (pos 5000) 24689 12345;
+      water = station (pos 30000) 40000 33333;
+    }) ∷ []
+
+-- and D's weighing, a model of 445 g, with loads by the gram
+abbrev pub model : Weighing
+model = weighing 3 355 90 (pos 50) 13350
+
+abbrev pub grams : List Entry
+grams =
+    entry.Weighing model ∷
+    entry.Sheet
+    (record {
+      fwd = pos 2400;
+      aft = pos 2600;
+      dry = 480;
+      wet = 500;
+      nlp = 0;
+      front = station (minus 2000) 29 1;
+      least = 4;
+      rear = station (pos 3000) 3 3;
+      water = station (pos 1000) 20 7;
+    }) ∷ []

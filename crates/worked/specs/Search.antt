@@ -1,7 +1,10 @@
 -- A row by a shorter search than its definition's, so that it can be computed: only multiples of the front step are tried, each
--- with none of the water and with all of it, which decide (`both-ends`). It is the same row. Assumes nothing.
-use mathlib.Core.Path.{_≡_, sym, ap, _∙_, fun-ext}
-use mathlib.Core.Bool.{Bool, true, false, _&&_, true≢false}
+-- with none of the water and with all of it, which decide (`both-ends`). It is the same row, and the placard of such rows is the
+-- same placard. Assumes nothing.
+use mathlib.Core.Path.{_≡_, refl, sym, ap, _∙_, fun-ext}
+use mathlib.Core.Bool.{Bool, true, false, cond, _&&_, true≢false}
+use mathlib.Core.List.{List, map}
+use mathlib.Core.Option.{Option, none, some}
 use Prim.Native.Nat.{ℕ, zero, suc, _*_, _/_, _%_, _≤_}
 use native.Mathlib.Nat.{div-zero, div-add-mod', div-mul-le-self, mul-le-mul-right}
 use native.Mathlib.Omega.{arith}
@@ -12,8 +15,11 @@ use Rattle.laws.specs.Tests.{isnt, left}
 use Rattle.paper.specs.declared.Sheet.{Sheet}
 use Rattle.paper.specs.declared.Row.{Row}
 use Rattle.paper.specs.declared.Row.the-variants.{Range, Blank}
+use Rattle.paper.specs.declared.Placard.{Placard}
 use Rattle.paper.specs.Record.{Balance}
-use Rattle.paper.specs.Rows.{weightWith, momentWith, lines, all, keepsAt, isStep, keeps, smallest, largest, rowOf, row}
+use Rattle.paper.specs.Rows.{weightWith, momentWith, lines, all, keepsAt, isStep, keeps, smallest, largest, rowOf, row, joined, loads, rowCount}
+use Rattle.paper.specs.Placard.{line, text, textLength, blankOf, blankCount}
+use Rattle.paper.specs.Answers.{over, placardGiven, placardRefused, placardBy}
 use Rattle.planes.proofs.Searches.{Outcome, a-range, a-blank, outcome, row-of-ends, row-of-none}
 use Rattle.planes.proofs.Rows.{keeps-is, is-step}
 use Rattle.planes.proofs.Convex.{both-ends}
@@ -51,9 +57,9 @@ by-steps q n f h = by (outcome (λ (k : ℕ). q (k * f)) (n / f))
                 omega (arith, multiple j t, mul-le-mul-right f (k .1)),
               ),
         ))
-    by (a-blank e none) =
+    by (a-blank e empty) =
         rw e (row-of-none q n
-        (λ j m. isnt (q j) (λ t. true≢false (sym t ∙ sym (ap q (multiple j t)) ∙ none (j / f) (fewer f j n m)))))
+        (λ j m. isnt (q j) (λ t. true≢false (sym t ∙ sym (ap q (multiple j t)) ∙ empty (j / f) (fewer f j n m)))))
 
 -- ---- the row
 
@@ -87,3 +93,39 @@ row-is s b =
     ∙ ap
     (λ (q : ℕ → Bool). times (s .front .step) (rowOf (λ (k : ℕ). q (k * s .front .step)) (s .front .most / s .front .step)))
     (fun-ext (λ p. keeps-both s b r w p))))
+
+-- ---- the placard, where f gives the row of a rear load and water
+
+abbrev pub textBy : (ℕ → ℕ → Row) → Sheet → List ℕ
+textBy f s = joined (map (λ (x : ℕ × ℕ). line (x .0) (x .1) (f (x .0) (x .1))) (loads s))
+
+abbrev givenBy : (ℕ → ℕ → Row) → Sheet → List ℕ → Placard × List ℕ
+givenBy f s buffer = (
+  record {
+    number = 0;
+    bytes = textLength s;
+    rows = rowCount s;
+    blank = blankOf (map (λ (x : ℕ × ℕ). f (x .0) (x .1)) (loads s));
+  },
+  over (textBy f s) buffer,
+)
+
+pub text-is : (s : Sheet) (b : Balance) → text s b ≡ textBy (rowBy s b) s
+unfolding text
+text-is s b = ap (λ (f : ℕ → ℕ → Row). textBy f s) (row-is s b)
+
+given-is : (s : Sheet) (b : Balance) (buffer : List ℕ) → placardGiven s b buffer ≡ givenBy (rowBy s b) s buffer
+unfolding placardGiven text blankCount
+given-is s b buffer = ap (λ (f : ℕ → ℕ → Row). givenBy f s buffer) (row-is s b)
+
+-- `placardBy` with the shorter search
+abbrev pub answerBy : ℕ → Option Sheet → Option Balance → List ℕ → Placard × List ℕ
+answerBy n none o buffer = placardRefused n buffer
+answerBy n (some s) none buffer = placardRefused n buffer
+answerBy n (some s) (some b) buffer = cond (eqb n 0) (givenBy (rowBy s b) s buffer) (placardRefused n buffer)
+
+pub answer-is : (n : ℕ) (o : Option Sheet) (q : Option Balance) (buffer : List ℕ) → placardBy n o q buffer ≡ answerBy n o q buffer
+answer-is n none q buffer = refl
+answer-is n (some s) none buffer = refl
+answer-is n (some s) (some b) buffer =
+    ap (λ (x : Placard × List ℕ). cond (eqb n 0) x (placardRefused n buffer)) (given-is s b buffer)

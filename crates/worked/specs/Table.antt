@@ -1,5 +1,5 @@
--- "Plates worked through": the cases A to K in one table. antt computes a test of all of them at once, and what passes
--- the test holds of the definitions. Assumes nothing.
+-- "Plates worked through": the cases A to K in one table, and some beside them. antt computes a test of all of them at once, and
+-- what passes the test holds of the definitions. Assumes nothing.
 use mathlib.Core.Path.{_≡_, refl, sym, ap, _∙_}
 use mathlib.Core.Bool.{Bool, true, false, not, _&&_, true≢false}
 use mathlib.Core.List.{List, [], _∷_, _++_, map}
@@ -9,6 +9,7 @@ use Prim.Native.Char.{code}
 use Prim.Native.String.{String, [] as []ˢ, _∷_ as _∷ˢ_}
 use lib.Dec.{leb, eqb}
 use lib.IntN.{ℤ, pos}
+use lib.ListN.{length, replicate}
 use borrow.Author.Tests.{eqb-true, leb-true, not-true}
 use Rattle.laws.specs.Tests.{isnt, left, right}
 use Rattle.laws.specs.Equal.{eqZ, same-Z, eqList, same-list}
@@ -18,14 +19,20 @@ use Rattle.paper.specs.declared.Sheet.{Sheet}
 use Rattle.paper.specs.declared.Row.{Row}
 use Rattle.paper.specs.declared.Row.the-variants.{Range, Blank}
 use Rattle.paper.specs.declared.Entry.{Entry}
+use Rattle.paper.specs.declared.Entry.the-variants as entry
+use Rattle.paper.specs.declared.Placard.{Placard}
+use Rattle.paper.specs.Units.{isWeight, isArm}
 use Rattle.paper.specs.Record.{Balance, totalOf, momentOf, weighed, changed, changedBy, changesOf, lastWeighing, balanceOf, centreOf, sheetOf}
-use Rattle.paper.specs.Rows.{weightWith, momentWith, lines, all, keepsAt, row, below, loadsOf, joined, loads}
-use Rattle.paper.specs.Placard.{feed, digits, kilograms, ends, line, text}
+use Rattle.paper.specs.Rows.{weightWith, momentWith, lines, all, keepsAt, row, below, loadsOf, joined, loads, rowCount}
+use Rattle.paper.specs.Placard.{feed, digits, kilograms, ends, line, text, textLength, blankOf}
 use Rattle.paper.specs.File.{bytesOf, fieldBytes, layoutOf, fieldsBytes, entryBytes, bodyBytes, fileBytes}
+use Rattle.paper.specs.Refusals.{firstNumber, full, isTotal, isNonLifting, badReading, badDistance, weighingFaults, weighingNumber, badArms, badRanges, badRows, sheetFaults, sheetNumber, isNone, afterwards, isChange, badChange, changeFaults, changeNumber}
+use Rattle.paper.specs.Refusals.{placardTooLong, placardNumber, entryNumber, acceptedAfter, accepted}
+use Rattle.paper.specs.Answers.{over, placardRefused, placardAnswer}
 use Rattle.planes.proofs.Convex.{convex}
-use Rattle.worked.specs.Plates.{minus, weighing, blanik, G, H, I, J}
-use Rattle.worked.specs.Equal.{eqRow, same-row, Line, eqLine, same-line}
-use Rattle.worked.specs.Search.{rowBy, row-is}
+use Rattle.worked.specs.Plates.{minus, weighing, blanik, model, G, H, I, J, quarters, grams}
+use Rattle.worked.specs.Equal.{eqRow, same-row, Line, eqLine, same-line, Answer, eqAnswer, same-answer}
+use Rattle.worked.specs.Search.{rowBy, row-is, textBy, text-is, answerBy, answer-is}
 
 -- ---- the table
 
@@ -44,6 +51,24 @@ pub data Case : Type 0 where
   prints : List Entry → List String → Case
   -- a list and its file
   files : List Entry → List ℕ → Case
+  -- a list, a buffer as lent, the answer of the placard call and the buffer as it leaves it
+  places : List Entry → List ℕ → Placard → List ℕ → Case
+
+-- the bytes of a printed line, and of some, each with a line feed behind it
+abbrev pub bytes : String → List ℕ
+bytes []ˢ = []
+bytes (c ∷ˢ cs) = code c ∷ bytes cs
+
+abbrev pub printed : List String → List ℕ
+printed [] = []
+printed (l ∷ ls) = bytes l ++ feed ∷ printed ls
+
+-- J's placard
+abbrev J-lines : List String
+J-lines =
+    "0000.000 0000.000 0069.000 0110.000" ∷
+    "0055.000 0000.000 0054.000 0109.000" ∷
+    "0110.000 0000.000 0040.000 0080.000" ∷ []
 
 abbrev pub table : List Case
 table =
@@ -54,7 +79,7 @@ table =
     -- C
     weighs (weighing 2 310000 280100 (minus 9500) 550000) (pos 310000) (pos 19390000000) ∷
     -- D
-    weighs (weighing 3 355 90 (pos 50) 13350) (pos 445) (pos 1179250) ∷
+    weighs model (pos 445) (pos 1179250) ∷
     -- E
     weighs (weighing 4 460 15 (pos 3000) 10300) (pos 445) (pos 1180500) ∷
     -- F
@@ -83,7 +108,40 @@ table =
     (110000, 0, Range 40000 80000) ∷ []
     ) ∷
     -- K
-    files [] (0 ∷ 0 ∷ 0 ∷ 2 ∷ 1 ∷ 0 ∷ []) ∷ []
+    files [] (0 ∷ 0 ∷ 0 ∷ 2 ∷ 1 ∷ 0 ∷ []) ∷
+    -- beside the paper's: J into a buffer with two bytes more, of exactly its length, and with one too few
+    places J (replicate 110 7) (record { number = 0; bytes = 108; rows = 3; blank = 0 }) (printed J-lines ++ 7 ∷ 7 ∷ []) ∷
+    places J (replicate 108 7) (record { number = 0; bytes = 108; rows = 3; blank = 0 }) (printed J-lines) ∷
+    places J (replicate 107 7) (record { number = 11; bytes = 0; rows = 0; blank = 0 }) (replicate 107 7) ∷
+    -- loads that are no whole kilograms
+    rows quarters (
+    (0, 0, Range 70250 91250) ∷
+    (0, 33333, Range 70250 78500) ∷
+    (12345, 0, Range 65250 79500) ∷
+    (12345, 33333, Range 65250 66250) ∷ []
+    ) ∷
+    prints quarters (
+    "0000.000 0000.000 0070.250 0091.250" ∷
+    "0000.000 0033.333 0070.250 0078.500" ∷
+    "0012.345 0000.000 0065.250 0079.500" ∷
+    "0012.345 0033.333 0065.250 0066.250" ∷ []
+    ) ∷
+    rows grams (
+    (0, 0, Range 6 25) ∷
+    (0, 7, Range 6 23) ∷
+    (0, 14, Range 6 20) ∷
+    (3, 0, Range 7 25) ∷
+    (3, 7, Range 7 23) ∷
+    (3, 14, Range 7 21) ∷ []
+    ) ∷
+    prints grams (
+    "0000.000 0000.000 0000.006 0000.025" ∷
+    "0000.000 0000.007 0000.006 0000.023" ∷
+    "0000.000 0000.014 0000.006 0000.020" ∷
+    "0000.003 0000.000 0000.007 0000.025" ∷
+    "0000.003 0000.007 0000.007 0000.023" ∷
+    "0000.003 0000.014 0000.007 0000.021" ∷ []
+    ) ∷ []
 
 -- ---- what a case says
 
@@ -95,25 +153,33 @@ Has es P = (s : Sheet) × (b : Balance) × (sheetOf es ≡ some s) × (balanceOf
 abbrev pub linesBy : (ℕ → ℕ → Row) → Sheet → List Line
 linesBy f s = map (λ (x : ℕ × ℕ). (x .0, x .1, f (x .0) (x .1))) (loads s)
 
--- the bytes of a printed line, and of some, each with a line feed behind it
-abbrev pub bytes : String → List ℕ
-bytes []ˢ = []
-bytes (c ∷ˢ cs) = code c ∷ bytes cs
+-- the entries that a case is about
+abbrev pub entriesOf : Case → List Entry
+entriesOf (weighs w g m) = entry.Weighing w ∷ []
+entriesOf (centres w c) = entry.Weighing w ∷ []
+entriesOf (a-row es r w x) = es
+entriesOf (begins es lo hi) = es
+entriesOf (rows es ls) = es
+entriesOf (prints es ls) = es
+entriesOf (files es xs) = es
+entriesOf (places es buffer a left) = es
 
-abbrev pub printed : List String → List ℕ
-printed [] = []
-printed (l ∷ ls) = bytes l ++ feed ∷ printed ls
-
--- the exact minimum, whatever the front step: no load up to the lower one keeps the limits, and the upper one does
-abbrev pub Says : Case → Type 0
-Says (weighs w g m) = (totalOf w ≡ g) × (momentOf w ≡ m)
-Says (centres w c) = centreOf (weighed w) ≡ c
-Says (a-row es r w x) = Has es (λ s b. row s b r w ≡ x)
-Says (begins es lo hi) =
+-- what they give; the exact minimum, whatever the front step: no load up to the lower one keeps the limits, and the upper one
+-- does
+abbrev pub Gives : Case → Type 0
+Gives (weighs w g m) = (totalOf w ≡ g) × (momentOf w ≡ m)
+Gives (centres w c) = centreOf (weighed w) ≡ c
+Gives (a-row es r w x) = Has es (λ s b. row s b r w ≡ x)
+Gives (begins es lo hi) =
     Has es (λ s b. ((p : ℕ) → p ≤ lo → keepsAt s b 0 p 0 ≡ false) × (keepsAt s b 0 hi 0 ≡ true))
-Says (rows es ls) = Has es (λ s b. linesBy (row s b) s ≡ ls)
-Says (prints es ls) = Has es (λ s b. text s b ≡ printed ls)
-Says (files es xs) = fileBytes es ≡ xs
+Gives (rows es ls) = Has es (λ s b. linesBy (row s b) s ≡ ls)
+Gives (prints es ls) = Has es (λ s b. text s b ≡ printed ls)
+Gives (files es xs) = fileBytes es ≡ xs
+Gives (places es buffer a left) = placardAnswer es buffer ≡ (a, left)
+
+-- its entries are accepted in turn by a fresh record, and give what it says
+abbrev pub Says : Case → Type 0
+Says c = (accepted (entriesOf c) ≡ true) × Gives c
 
 -- ---- the test: as the case says, with each row by the shorter search of `rowBy`
 
@@ -122,19 +188,22 @@ has none o t = false
 has (some s) none t = false
 has (some s) (some b) t = t s b
 
-abbrev textBy : (ℕ → ℕ → Row) → Sheet → List ℕ
-textBy f s = joined (map (λ (x : ℕ × ℕ). line (x .0) (x .1) (f (x .0) (x .1))) (loads s))
-
-passes : Case → Bool
-unfolding totalOf momentOf weighed centreOf sheetOf balanceOf lastWeighing changesOf changedBy changed orElse keepsAt all lines weightWith momentWith rowBy loads loadsOf joined below line kilograms digits ends fileBytes bodyBytes entryBytes fieldsBytes fieldBytes bytesOf layoutOf
-passes (weighs w g m) = eqZ (totalOf w) g && eqZ (momentOf w) m
-passes (centres w c) = eqZ (centreOf (weighed w)) c
-passes (a-row es r w x) = has (sheetOf es) (balanceOf es) (λ s b. eqRow (rowBy s b r w) x)
-passes (begins es lo hi) =
+gives : Case → Bool
+unfolding totalOf momentOf weighed centreOf sheetOf balanceOf lastWeighing changesOf changedBy changed orElse keepsAt all lines weightWith momentWith rowBy loads loadsOf joined below line kilograms digits ends fileBytes bodyBytes entryBytes fieldsBytes fieldBytes bytesOf layoutOf placardNumber placardTooLong placardRefused firstNumber isNone textLength rowCount blankOf over
+gives (weighs w g m) = eqZ (totalOf w) g && eqZ (momentOf w) m
+gives (centres w c) = eqZ (centreOf (weighed w)) c
+gives (a-row es r w x) = has (sheetOf es) (balanceOf es) (λ s b. eqRow (rowBy s b r w) x)
+gives (begins es lo hi) =
     has (sheetOf es) (balanceOf es) (λ s b. leb lo hi && (not (keepsAt s b 0 lo 0) && keepsAt s b 0 hi 0))
-passes (rows es ls) = has (sheetOf es) (balanceOf es) (λ s b. eqList eqLine (linesBy (rowBy s b) s) ls)
-passes (prints es ls) = has (sheetOf es) (balanceOf es) (λ s b. eqList eqb (textBy (rowBy s b) s) (printed ls))
-passes (files es xs) = eqList eqb (fileBytes es) xs
+gives (rows es ls) = has (sheetOf es) (balanceOf es) (λ s b. eqList eqLine (linesBy (rowBy s b) s) ls)
+gives (prints es ls) = has (sheetOf es) (balanceOf es) (λ s b. eqList eqb (textBy (rowBy s b) s) (printed ls))
+gives (files es xs) = eqList eqb (fileBytes es) xs
+gives (places es buffer a left) =
+    eqAnswer (answerBy (placardNumber es (length buffer)) (sheetOf es) (balanceOf es) buffer) (a, left)
+
+accepts : List Entry → Bool
+unfolding accepted acceptedAfter entryNumber weighingNumber sheetNumber changeNumber weighingFaults sheetFaults changeFaults firstNumber full isNone afterwards isTotal isNonLifting badReading badDistance badArms badRanges badRows isChange badChange rowCount isWeight isArm weighed totalOf momentOf changed balanceOf lastWeighing changesOf changedBy orElse
+accepts es = accepted es
 
 -- ---- what passes is as the case says
 
@@ -151,12 +220,8 @@ begins-told : (s : Sheet) (b : Balance) (lo hi : ℕ) → leb lo hi ≡ true →
 begins-told s b lo hi h e k p m =
     isnt (keepsAt s b 0 p 0) (λ t. true≢false (sym (convex s b 0 0 p lo hi m (leb-true lo hi h) t k) ∙ e))
 
-text-told : (s : Sheet) (b : Balance) → text s b ≡ textBy (rowBy s b) s
-unfolding text
-text-told s b = ap (λ (f : ℕ → ℕ → Row). textBy f s) (row-is s b)
-
-told : (c : Case) → passes c ≡ true → Says c
-unfolding passes
+told : (c : Case) → gives c ≡ true → Gives c
+unfolding gives placardAnswer
 told (weighs w g m) e =
     let t = eqZ (totalOf w) g in
     let u = eqZ (momentOf w) m in
@@ -177,20 +242,27 @@ told (rows es ls) e =
     (λ s b t.
     ap (λ (f : ℕ → ℕ → Row). linesBy f s) (row-is s b) ∙ same-list eqLine same-line (linesBy (rowBy s b) s) ls t) e
 told (prints es ls) e =
-    has-told es _ (λ s b t. text-told s b ∙ same-list eqb eqb-true (textBy (rowBy s b) s) (printed ls) t) e
+    has-told es _ (λ s b t. text-is s b ∙ same-list eqb eqb-true (textBy (rowBy s b) s) (printed ls) t) e
 told (files es xs) e = same-list eqb eqb-true (fileBytes es) xs e
+told (places es buffer a left) e =
+    let n = placardNumber es (length buffer) in
+    answer-is n (sheetOf es) (balanceOf es) buffer
+    ∙ same-answer (answerBy n (sheetOf es) (balanceOf es) buffer) (a, left) e
 
 -- ---- the theorem
 
 eachPasses : List Case → Bool
-unfolding passes
+unfolding accepts gives
 eachPasses [] = true
-eachPasses (c ∷ cs) = passes c && eachPasses cs
+eachPasses (c ∷ cs) = accepts (entriesOf c) && (gives c && eachPasses cs)
 
 each-told : (cs : List Case) → eachPasses cs ≡ true → Each Says cs
-unfolding eachPasses
+unfolding eachPasses accepts
 each-told [] e = tt
-each-told (c ∷ cs) e = (told c (left (passes c) (eachPasses cs) e), each-told cs (right (passes c) (eachPasses cs) e))
+each-told (c ∷ cs) e =
+    let t = accepts (entriesOf c) in
+    let more = right t (gives c && eachPasses cs) e in
+    ((left t (gives c && eachPasses cs) e, told c (left (gives c) (eachPasses cs) more)), each-told cs (right (gives c) (eachPasses cs) more))
 
 pub A-to-K : Each Says table
 unfolding eachPasses
