@@ -1,29 +1,24 @@
--- What the table of cases does not say: a placard over a buffer, G's file, a mistake that the paper warns of, and a journal. Each is
--- computed from the definitions.
+-- What the table of cases does not say: a mistake that the paper warns of, G's file, and a journal. Each is computed from the
+-- definitions.
 use mathlib.Core.Path.{_≡_, refl}
 use mathlib.Core.Bool.{true, _&&_}
 use mathlib.Core.List.{List, [], _∷_, _++_}
 use mathlib.Core.Option.{Option, none, some, orElse, bind}
 use Prim.Native.Nat.{ℕ}
 use lib.IntN.{pos}
-use lib.ListN.{take, replicate}
+use lib.ListN.{take}
 use Rattle.paper.specs.declared.Sheet.{Sheet}
 use Rattle.paper.specs.declared.Row.{Row}
 use Rattle.paper.specs.declared.Row.the-variants.{Range}
 use Rattle.paper.specs.declared.Entry.{Entry}
-use Rattle.paper.specs.declared.Placard.{Placard}
 use Rattle.paper.specs.Units.{isWeight, isArm}
-use Rattle.paper.specs.Record.{Balance, totalOf, momentOf, weighed, changedBy, changesOf, lastWeighing, balanceOf, sheetOf}
-use Rattle.paper.specs.Rows.{weightWith, momentWith, lines, all, anyFails, keepsAt, breaksAt, upTo, isStep, keeps, smallest, largest, rowOf, row}
-use Rattle.paper.specs.Rows.{below, loadsOf, joined, loads, rowCount}
-use Rattle.paper.specs.Placard.{digits, kilograms, ends, line, text, textLength, blankOf, blankCount}
+use Rattle.paper.specs.Record.{Balance, totalOf, momentOf, weighed, changesOf, lastWeighing, balanceOf}
+use Rattle.paper.specs.Rows.{weightWith, momentWith, lines, all, anyFails, keepsAt, breaksAt, isStep, smallest, largest, rowOf, joined, rowCount}
 use Rattle.paper.specs.File.{bytesOf, numberOf, fieldBytes, fieldValue, layoutOf, entryOf, fieldsBytes, entryBytes, bodyBytes, fileBytes, takeNumber, takeFields, takeEntry, takeEntries, takeBody, laidOut}
 use Rattle.paper.specs.Refusals.{firstNumber, full, isTotal, isNonLifting, badReading, badDistance, weighingFaults, weighingNumber, badArms, badRanges, badRows, sheetFaults, sheetNumber, isNone, changeFaults, changeNumber}
-use Rattle.paper.specs.Refusals.{undoNumber, placardTooLong, placardNumber, entryNumber, acceptedAfter, accepted, fileOf, readingNumber}
-use Rattle.paper.specs.Answers.{over, placardGiven, placardRefused, placardAnswer}
+use Rattle.paper.specs.Refusals.{undoNumber, entryNumber, acceptedAfter, accepted, fileOf, readingNumber}
 use Rattle.paper.specs.Journal.{Call, weigh, install, change, undo, read, callNumber, withoutLast, acceptedCall, afterBy, journalBy, numbersBy, journal, numbers}
-use Rattle.worked.specs.Plates.{minus, blanik, blanikSheet, astir, astirSheet, G, J}
-use Rattle.worked.specs.Table.{printed}
+use Rattle.worked.specs.Plates.{minus, blanik, blanikSheet, astir, astirSheet, G}
 
 -- ---- judging water with the tank full only: G's second row would begin at 64 kg, and that step breaks a limit with none
 

@@ -84,13 +84,10 @@ quarters =
       water = station (pos 30000) 40000 33333;
     }) ∷ []
 
--- and D's weighing, a model of 445 g, with loads by the gram
-abbrev pub model : Weighing
-model = weighing 3 355 90 (pos 50) 13350
-
+-- and D's weighing, 445 g, with loads by the gram
 abbrev pub grams : List Entry
 grams =
-    entry.Weighing model ∷
+    entry.Weighing (weighing 3 355 90 (pos 50) 13350) ∷
     entry.Sheet
     (record {
       fwd = pos 2400;

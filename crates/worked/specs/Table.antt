@@ -30,8 +30,8 @@ use Rattle.paper.specs.Refusals.{firstNumber, full, isTotal, isNonLifting, badR
 use Rattle.paper.specs.Refusals.{placardTooLong, placardNumber, entryNumber, acceptedAfter, accepted}
 use Rattle.paper.specs.Answers.{over, placardRefused, placardAnswer}
 use Rattle.planes.proofs.Convex.{convex}
-use Rattle.worked.specs.Plates.{minus, weighing, blanik, model, G, H, I, J, quarters, grams}
-use Rattle.worked.specs.Equal.{eqRow, same-row, Line, eqLine, same-line, Answer, eqAnswer, same-answer}
+use Rattle.worked.specs.Plates.{minus, weighing, blanik, G, H, I, J, quarters, grams}
+use Rattle.worked.specs.Equal.{eqRow, same-row, Line, eqLine, same-line, eqAnswer, same-answer}
 use Rattle.worked.specs.Search.{rowBy, row-is, textBy, text-is, answerBy, answer-is}
 
 -- ---- the table
@@ -79,7 +79,7 @@ table =
     -- C
     weighs (weighing 2 310000 280100 (minus 9500) 550000) (pos 310000) (pos 19390000000) ∷
     -- D
-    weighs model (pos 445) (pos 1179250) ∷
+    weighs (weighing 3 355 90 (pos 50) 13350) (pos 445) (pos 1179250) ∷
     -- E
     weighs (weighing 4 460 15 (pos 3000) 10300) (pos 445) (pos 1180500) ∷
     -- F
