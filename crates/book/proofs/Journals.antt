@@ -1,10 +1,11 @@
 -- A logbook that is read whole gives the journal of the calls that its lines say, and each of them gets no number: by recursion
 -- on the lines, and for each by what it says and by whether its call is refused. Assumes nothing.
-use mathlib.Core.Path.{_≡_, refl, _∙_}
+use mathlib.Core.Path.{_≡_, refl, sym, ap, _∙_}
 use mathlib.Core.Bool.{Bool, true, false, cond, true≢false}
 use mathlib.Core.List.{List, [], _∷_}
 use Prim.Native.Nat.{ℕ, suc}
 use lib.Dec.{eqb}
+use denote.Ref.{now}
 use borrow.Author.Tests.{eqb-true}
 use Rattle.laws.specs.Splits.{split}
 use Rattle.laws.specs.Lists.{Each}
@@ -15,7 +16,11 @@ use Rattle.language.specs.declared.Line.{Line}
 use Rattle.language.specs.declared.Line.the-variants as line
 use Rattle.language.specs.Lines.{says}
 use Rattle.book.proofs.Turns.{refused-stays, not-understood-stays}
-use Rattle.book.specs.Books.{stands, refused, notUnderstood, called, afterLine, afterLines, bookOf}
+use Rattle.record.specs.Held.{recordOf}
+use Rattle.book.specs.declared.Reading.{Reading}
+use Rattle.book.specs.declared.Ending.the-variants as ending
+use Rattle.book.specs.Books.{Outcome, stands, refused, notUnderstood, called, afterLine, afterLines, bookOf, readingOf}
+use Rattle.book.proofs.read.Reads as read
 
 -- the call that a line makes, in front of others
 unfoldable pub callOfLine : Line → List Call → List Call
@@ -70,3 +75,19 @@ lines-give i gs es (l ∷ ls) h = line-gives (suc i) gs es ls (callsOf ls) (λ h
 pub journal-of-book : (xs : List ℕ) (es : List Entry) → bookOf xs ≡ stands es → (journal (callsOf (split feed xs)) ≡ es) × Each (λ (n : ℕ). n ≡ 0) (numbers (callsOf (split feed xs)))
 unfolding bookOf journal numbers
 journal-of-book xs es h = lines-give 0 [] es (split feed xs) h
+
+-- ---- the call
+
+-- a reading that is whole is of lines that come to a list
+whole-by : (o : Outcome) (k : Reading) → k ≡ readingOf o → k .ending ≡ ending.Whole → (es : List Entry) × (o ≡ stands es) × (k .log ≡ recordOf es)
+whole-by (stands es) k e w = (es, refl, ap (λ (r : Reading). r .log) e)
+whole-by (refused i n) k e w = let no : ending.Refused i n ≡ ending.Whole = sym (ap (λ (r : Reading). r .ending) e) ∙ w in absurd (true≢false cc)
+whole-by (notUnderstood i) k e w = let no : ending.NotUnderstood i ≡ ending.Whole = sym (ap (λ (r : Reading). r .ending) e) ∙ w in absurd (true≢false cc)
+
+-- A logbook that `book::read` takes to its end gives the record of the journal of its lines' calls, each of them accepted.
+pub whole-book : (κs : _) (i i′ : _) (k : Reading) → read.Post κs (i, tt) k (i′, tt) → k .ending ≡ ending.Whole
+    → (k .log ≡ recordOf (journal (callsOf (split feed (now i))))) × Each (λ (n : ℕ). n ≡ 0) (numbers (callsOf (split feed (now i))))
+whole-book κs i i′ k h w =
+    let found = whole-by (bookOf (now i)) k h w in
+    let calls = journal-of-book (now i) (found .0) (found .1) in
+    (found .2 ∙ ap recordOf (sym (calls .0)), calls .1)
