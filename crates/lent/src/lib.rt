@@ -126,7 +126,7 @@ pub fn centre(buffer: &[u8]) -> CentreOfGravity
         };
     };
     let standing = found.standing;
-    record::centre(standing)
+    centre::answer(standing)
 }
 
 // The placard, into another buffer.

@@ -1,16 +1,12 @@
 -- What the calls answer, by their number: each definition computed on the one condition that settles it. Assumes nothing.
 use mathlib.Core.Path.{_≡_}
 use mathlib.Core.List.{List}
-use mathlib.Core.Option.{none, some}
 use Prim.Native.Nat.{ℕ, _<_}
 use native.Mathlib.Omega.{arith}
-use lib.IntN.{pos, natAbs}
 use lib.ListN.{length}
 use borrow.Author.Tests.{eq-eqb, ne-eqb}
 use Rattle.paper.specs.declared.Entry.{Entry}
-use Rattle.paper.specs.Record.{Balance, balanceOf, centreOf}
-use Rattle.paper.specs.Refusals.{firstNumber, isNone, undoNumber, centreNumber}
-use Rattle.paper.specs.Answers.{centreGiven, centreRefused, centreAnswer}
+use Rattle.paper.specs.Refusals.{firstNumber, undoNumber}
 use Rattle.record.specs.declared.Record.{Record}
 use Rattle.record.specs.declared.Kept.{Kept}
 use Rattle.record.specs.Held.{recordOf, keptOr}
@@ -34,11 +30,3 @@ undo-bare es e = rw (eq-eqb (length es) 0 e)
 pub undo-some : (es : List Entry) → (length es ≡ 0 → ⊥) → undoNumber es ≡ 0
 unfolding undoNumber firstNumber
 undo-some es h = rw (ne-eqb (length es) 0 h)
-
-pub centre-none : (es : List Entry) → balanceOf es ≡ none → centreAnswer es ≡ record { number = 7; total = 0; moment = pos 0; centre = pos 0 }
-unfolding centreAnswer centreRefused centreNumber firstNumber isNone
-centre-none es e = rw e
-
-pub centre-some : (es : List Entry) (b : Balance) → balanceOf es ≡ some b → centreAnswer es ≡ record { number = 0; total = natAbs (b .total); moment = b .moment; centre = centreOf b }
-unfolding centreAnswer centreGiven
-centre-some es b e = rw e

@@ -9,14 +9,11 @@ use paper::Entry;
 use paper::Sheet;
 use paper::Weighing;
 ghost use mathlib.Core.Path.{_≡_};
-ghost use mathlib.Core.List.{List, [], _∷_, _++_};
-ghost use Prim.Native.Nat.{_<_};
-ghost use Rattle.paper.specs.Record.{balanceOf};
+ghost use mathlib.Core.List.{[], _∷_, _++_};
 ghost use Rattle.paper.specs.Refusals.{entryNumber};
 ghost use Rattle.paper.specs.Journal as journal;
 ghost use Rattle.paper.specs.Answers.{centreAnswer};
-ghost use Rattle.judge.specs.Standing.{plainly, Sound};
-ghost use Rattle.record.specs.Held.{unusedSlot, recordOf, keptBehind, heldBy, answered, keptOr, put, ReplayedAs};
+ghost use Rattle.record.specs.Held.{unusedSlot, recordOf, heldBy, answered, keptOr, ReplayedAs};
 
 pub struct Slot {
     pub entry: Entry,
@@ -53,50 +50,31 @@ fn unused() -> Slot
     }
 }
 
-// A record with one entry more.
-pub fn appended(r: Record, e: Entry) -> Record
-    requires { ⌜ r .count < 64 ⌝ }
-    ensures { λ s. ⌜ s ≡ put r e ⌝ }
-{
-    let mut next = r;
-    let at = r.count;
-    next.slots[at] = Slot { entry: e };
-    next.count = at + 1;
-    next
-}
-
-// One entry more of a replay: it is passed over where its call refuses it.
-fn step(r: Replayed, e: Entry) -> Replayed
-    requires { ⌜ Sound (r .log .count) (r .standing) ⌝ }
-    ensures { λ s. ⌜ ((es : List _) → ReplayedAs es r → ReplayedAs (keptBehind es e) s) ⌝ }
-{
-    let log = r.log;
-    let standing = r.standing;
-    match judge::judge(log.count, standing, e) {
-        Judged::Refused(_) => r,
-        Judged::Accepted(next) => Replayed {
-            log: appended(log, e),
-            standing: next,
-        },
-    }
-}
-
 // The entries of a record in turn.
 pub fn replay(r: Record) -> Replayed
     ensures { λ s. ⌜ ReplayedAs (heldBy r) s ⌝ }
 {
-    let mut at = Replayed {
-        log: Record::fresh(),
-        standing: Standing::Unweighed,
-    };
+    let mut slots = [unused(); CAPACITY];
+    let mut standing = Standing::Unweighed;
+    let mut n = 0;
     let mut i = 0;
     while i < CAPACITY && i < r.count {
         let slot = r.slots[i];
         let e = slot.entry;
-        at = step(at, e);
-        i += 1;
+        match judge::judge(n, standing, e) {
+            Judged::Refused(_) => {
+                i += 1;
+            }
+            Judged::Accepted(next) => {
+                slots[n] = Slot { entry: e };
+                standing = next;
+                n += 1;
+                i += 1;
+            }
+        }
     }
-    at
+    let log = Record { slots, count: n };
+    Replayed { log, standing }
 }
 
 // An entry at the end of a record, or its number and the record as it was.
@@ -104,38 +82,19 @@ fn add(r: Record, e: Entry) -> Kept
     ensures { λ s. ⌜ s ≡ keptOr (entryNumber (heldBy r) e) r (heldBy r ++ e ∷ []) ⌝ }
 {
     let now = replay(r);
-    let log = now.log;
+    let at = now.log.count;
     let standing = now.standing;
-    match judge::judge(log.count, standing, e) {
+    match judge::judge(at, standing, e) {
         Judged::Refused(number) => Kept { number, log: r },
         Judged::Accepted(_) => {
-            let next = appended(log, e);
+            let mut next = now.log;
+            next.slots[at] = Slot { entry: e };
+            next.count = at + 1;
             Kept {
                 number: 0,
                 log: next,
             }
         }
-    }
-}
-
-// Total, moment and empty centre of gravity of what stands: 7 before a weighing.
-pub fn centre(standing: Standing) -> CentreOfGravity
-    requires { ⌜ Sound 4096 standing ⌝ }
-    ensures { λ r. ⌜ ((es : List _) → plainly standing ≡ balanceOf es → r ≡ centreAnswer es) ⌝ }
-{
-    let Standing::Weighed(b) = standing else {
-        return CentreOfGravity {
-            number: 7,
-            total: 0,
-            moment: 0,
-            centre: 0,
-        };
-    };
-    CentreOfGravity {
-        number: 0,
-        total: b.total,
-        moment: balance::moment(b),
-        centre: balance::centre(b),
     }
 }
 
@@ -197,6 +156,6 @@ impl Record {
     {
         let now = replay(self);
         let standing = now.standing;
-        centre(standing)
+        centre::answer(standing)
     }
 }

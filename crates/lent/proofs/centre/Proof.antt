@@ -35,16 +35,16 @@ module _ (c : tie.After-known-told) where
   held : Finds (fileIn buffer) (heldIn buffer) (File (c .before .found .given .0 .0))
   held = rw (c .before .found .given .1) at (c .before .before .before .held .ensures)
 
-centre-requires : tie.Need-centre-requires
-centre-requires c κs =
+answer-requires : tie.Need-answer-requires
+answer-requires c κs =
     let f = held c in
     grown (length (f .0)) 4096 (c .before .found .given .0 .0 .standing) (omega (arith, at-most-64 (f .0) (held-accepted (buffer c) (f .0) (f .1)))) (f .2 .sound)
 
 returns-2 : tie.Need-returns-2
 returns-2 c =
     let f = held (c .before) in
-    c .centre .ensures (f .0) (f .2 .stands) ∙ centre-held _ (f .0) (f .1)
+    c .answer .ensures (f .0) (f .2 .stands) ∙ centre-held _ (f .0) (f .1)
 
 pub centre-spec : {M : Type 1} → statement M
 centre-spec =
-    tie.close (tie.spec held-requires enum-known-found enum-told returns centre-requires returns-2)
+    tie.close (tie.spec held-requires enum-known-found enum-told returns answer-requires returns-2)

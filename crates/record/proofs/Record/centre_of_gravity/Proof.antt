@@ -11,12 +11,12 @@ use Rattle.record.proofs.Record.centre_of_gravity.Tie as tie
 replay-requires : tie.Need-replay-requires
 replay-requires c κs = search needs
 
-centre-requires : tie.Need-centre-requires
-centre-requires c κs =
+answer-requires : tie.Need-answer-requires
+answer-requires c κs =
     grown _ 4096 (c .replay .result .standing) (omega (arith, held-most (c .before .args .self))) (c .replay .ensures .sound)
 
 returns : tie.Need-returns
-returns c = c .centre .ensures (heldBy (c .before .before .args .self)) (c .before .replay .ensures .stands)
+returns c = c .answer .ensures (heldBy (c .before .before .args .self)) (c .before .replay .ensures .stands)
 
 pub centre-of-gravity-spec : {M : Type 1} → statement M
-centre-of-gravity-spec = tie.close (tie.spec replay-requires centre-requires returns)
+centre-of-gravity-spec = tie.close (tie.spec replay-requires answer-requires returns)

@@ -1,13 +1,13 @@
--- `record::centre` meets its contract: what stands is the balance of the list, or there is none. Assumes nothing.
+-- `centre::answer` meets its contract: what stands is the balance of the list, or there is none. Assumes nothing.
 use borrow.Author.Needs.{needs}
 use mathlib.Core.Path.{sym, _∙_, ap}
 use mir.Facts.{toZ-ofZ}
 use Rattle.balance.specs.Balance.{plain, Bounded}
 use Rattle.judge.specs.Standing.{plainly}
 use Rattle.judge.proofs.Judging.{of-weighed}
-use Rattle.record.proofs.Calls.{centre-none, centre-some}
-use Rattle.record.proofs.centre.Statement.{statement}
-use Rattle.record.proofs.centre.Tie as tie
+use Rattle.centre.proofs.Answers.{centre-none, centre-some}
+use Rattle.centre.proofs.answer.Statement.{statement}
+use Rattle.centre.proofs.answer.Tie as tie
 
 enum-known-standing : tie.Need-enum-known-standing
 enum-known-standing c = search needs
@@ -35,7 +35,7 @@ returns-2 c es w =
     rw (toZ-ofZ (record { sfits = c .before .moment .ok }), toZ-ofZ (record { sfits = c .centre .ok }), c .before .moment .ensures, c .centre .ensures)
     (sym (centre-some _ (plain (k .standing .given .0 .0)) e))
 
-pub centre-spec : {M : Type 1} → statement M
-centre-spec =
+pub answer-spec : {M : Type 1} → statement M
+answer-spec =
     tie.close
     (tie.spec enum-known-standing enum-told returns moment-requires centre-requires returns-2)
