@@ -30,12 +30,11 @@ fn kind_named(x: u8) -> u8
     }
 }
 
-// The place behind a byte that may be the end.
+// The place behind a byte, or the end where there is none.
 pub fn behind(s: &[u8], end: usize) -> usize
-    requires { ⌜ end ≤ length (now s) ⌝ }
     ensures { λ r. ⌜ (r ≤ length (now (s .entry))) × (drop r (now (s .entry)) ≡ drop (suc end) (now (s .entry))) ⌝ }
 {
-    if end < s.len() { end + 1 } else { end }
+    if end < s.len() { end + 1 } else { s.len() }
 }
 
 // The numbers of the words from a place on, 0 where there are no more.

@@ -17,7 +17,7 @@ returns c = let a = c .before .args in (omega arith, ap (λ (k : ℕ). drop k (a
 returns-2 : tie.Need-returns-2
 returns-2 c =
     let a = c .before .args in
-    let h : length (a .s .now) ≤ a .end = omega arith in
+    let h : length (a .s .now) ≤ length (a .s .now) = omega arith in
     let k : length (a .s .now) ≤ suc (a .end) = omega arith in
     (omega arith, drop-of-length-le (a .s .now) h ∙ sym (drop-of-length-le (a .s .now) k))
 

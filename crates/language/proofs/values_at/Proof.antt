@@ -45,7 +45,7 @@ array-set-from-v : tie.Need-array-set-from-v Inv-loop μ-loop
 array-set-from-v c = omega arith
 
 behind-requires : tie.Need-behind-requires Inv-loop μ-loop
-behind-requires c κs = omega arith
+behind-requires c κs = tt
 
 add-i : tie.Need-add-i Inv-loop μ-loop
 add-i c = omega arith
