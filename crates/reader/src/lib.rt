@@ -18,13 +18,6 @@ impl<'a> Reader<'a> {
         Reader { src, at: 0 }
     }
 
-    // Where it stands.
-    pub fn at(self) -> usize
-        ensures { λ n. ⌜ n ≡ self .entry .at ⌝ }
-    {
-        self.at
-    }
-
     // Moved on to another place of the same bytes.
     pub fn moved(self, at: usize) -> Reader<'a>
         ensures { λ r. ⌜ (r .src ≡ self .entry .src) × (r .at ≡ at) ⌝ }

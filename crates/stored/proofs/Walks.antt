@@ -5,7 +5,7 @@ use mathlib.Core.List.{List, [], _∷_, _++_, map}
 use mathlib.Core.Option.{Option, none, some, orElse}
 use Prim.Native.Nat.{ℕ, _+_, _≤_, _<_}
 use native.Mathlib.Omega.{arith}
-use lib.ListN.{length, getD, drop, length-append}
+use lib.ListN.{length, drop, length-append}
 use lib.Pow.{areBytes}
 use borrow.Author.Tests.{eq-eqb, ne-eqb}
 use Rattle.laws.specs.Options.{or-none}
@@ -24,10 +24,8 @@ use Rattle.judge.specs.declared.Standing.the-variants.{Unweighed}
 use Rattle.judge.specs.Standing.{plainly, Sound, numberAt, after}
 use Rattle.judge.proofs.Following.{balance-more, number-at}
 use Rattle.judge.proofs.Accepted.{accepted-more}
-use Rattle.entries.specs.declared.Walk.{Walk}
 use Rattle.entries.specs.declared.Walk.the-variants.{Got, Nothing}
-use Rattle.entries.specs.Walking.{fieldsWalk, walkAt}
-use Rattle.entries.proofs.Places.{at-end, no-sheet-here, sheet-here}
+use Rattle.entries.specs.Walking.{walkAt}
 use Rattle.stored.specs.declared.Contents.{Contents}
 use Rattle.stored.specs.Found.{bytesIn, sheetAt, sheetPlace, ContentsOf}
 use Rattle.stored.proofs.Reading.{Rest, none-read, one-read, place-here}
@@ -50,23 +48,14 @@ module _ (s : List ℕ) (at : ℕ) where
   unfolding sheetAt
   no-place e = rw (eq-eqb at 0 e)
 
-  pub past-end : (at ≡ 0 → ⊥) → length s ≤ at → none ≡ sheetAt s at
-  unfolding sheetAt
-  past-end h k = rw (ne-eqb at 0 h, ← at-end s at k)
-
-  pub no-sheet : (at ≡ 0 → ⊥) → at < length s → (getD s at 0 ≡ 2 → ⊥) → none ≡ sheetAt s at
-  unfolding sheetAt
-  no-sheet h k n = rw (ne-eqb at 0 h) (sym (no-sheet-here s at k n))
-
-  -- the kind is a sheet's: its fields are there or not
-  module _ (h : at ≡ 0 → ⊥) (k : at < length s) (n : getD s at 0 ≡ 2) (x : Walk) (w : x ≡ fieldsWalk 2 s (at + 1)) where
-    pub cut-off : x ≡ Nothing → none ≡ sheetAt s at
+  module _ (h : at ≡ 0 → ⊥) where
+    pub nothing-there : walkAt s at ≡ Nothing → none ≡ sheetAt s at
     unfolding sheetAt
-    cut-off e = rw (ne-eqb at 0 h, ← sheet-here s at x k n w, e)
+    nothing-there w = rw (ne-eqb at 0 h, w)
 
-    pub a-sheet : (e : Entry) (place : ℕ) → x ≡ Got e place → orElse (asSheet e) none ≡ sheetAt s at
+    pub there : (e : Entry) (place : ℕ) → walkAt s at ≡ Got e place → orElse (asSheet e) none ≡ sheetAt s at
     unfolding sheetAt
-    a-sheet e place g = rw (ne-eqb at 0 h, ← sheet-here s at x k n w, g) (or-none (asSheet e))
+    there e place w = rw (ne-eqb at 0 h, w) (or-none (asSheet e))
 
 -- i entries are passed, and the walk stands at a place
 pub record WalkedTo (s : List ℕ) (count : ℕ) (c : Contents) : Type 0 where

@@ -21,9 +21,6 @@ const VERSION: u8 = 1;
 // The length, the version and the count of entries come first.
 pub const HEADER: usize = 6;
 
-// The kind of a sheet.
-const SHEET: u8 = 2;
-
 // What stands in the file of a record: how many entries, their balance, the place of the sheet in force (0 where there is
 // none), the place of the last entry (behind the header where there is none) and the place behind it.
 pub struct Contents {
@@ -79,20 +76,10 @@ pub fn sheet_at(s: &[u8], at: usize) -> InForce
     if at == 0 {
         return InForce::Nothing;
     }
-    if s.len() <= at {
+    let Walk::Got(entry, _) = reader::entry_at(s, at) else {
         return InForce::Nothing;
-    }
-    if s[at] != SHEET {
-        return InForce::Nothing;
-    }
-    let from = at + 1;
-    if s.len() - from < 60 {
-        return InForce::Nothing;
-    }
-    sheet::later(
-        InForce::Nothing,
-        layout::entry_of(SHEET, entries::sheet_at(s, from)),
-    )
+    };
+    sheet::later(InForce::Nothing, entry)
 }
 
 // What stands behind the header, judged entry by entry: just as many entries as the count says, and no byte over.
