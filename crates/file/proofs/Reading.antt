@@ -1,69 +1,91 @@
--- Reading: a record filled with the entries of a file, one after the other, and what the call answers. Assumes nothing.
+-- Reading: the entries read so far are accepted, they are in the record, and what stands is theirs; one entry more, or what
+-- shows that there is no file; and what the call answers. Assumes nothing.
 use mathlib.Core.Path.{_≡_, refl, sym, ap, _∙_}
 use mathlib.Core.Bool.{true}
-use mathlib.Core.List.{List, [], _∷_, _++_, append-nil}
-use mathlib.Core.Option.{Option, none, some, Option·map, Option·some-injective}
-use Prim.Native.Nat.{ℕ, _+_, _-_, _≤_, _<_}
-use native.Mathlib.Omega.{arith}
+use mathlib.Core.List.{List, [], _∷_, _++_}
+use mathlib.Core.Option.{Option, none, some}
+use Prim.Native.Nat.{ℕ, _+_, _≤_, _<_}
 use lib.ListN.{length, drop, set}
 use lib.Pow.{areBytes}
-use Rattle.laws.specs.Lists.{length-more}
 use Rattle.paper.specs.declared.Entry.{Entry}
 use Rattle.paper.specs.File.{takeEntries}
-use Rattle.paper.specs.Refusals.{fileOf, _when_, isNone, firstNumber, readingNumber}
+use Rattle.paper.specs.Refusals.{entryNumber, acceptedAfter, accepted, onlyAccepted, fileOf, _when_, isNone, firstNumber, readingNumber}
 use Rattle.paper.specs.Journal.{read, callNumber, acceptedCall, entriesOr}
+use Rattle.judge.specs.declared.Standing.{Standing}
+use Rattle.judge.specs.declared.Standing.the-variants.{Unweighed}
+use Rattle.judge.specs.Standing.{plainly, Sound, numberAt, after}
+use Rattle.judge.proofs.Accepted.{accepted-more}
 use Rattle.record.specs.declared.Record.{Record}
-use Rattle.record.specs.Held.{slotOf, recordOf, heldBy, put, keptOr, answered}
-use Rattle.record.proofs.Lists.{put-is}
+use Rattle.record.specs.declared.Kept.{Kept}
+use Rattle.record.specs.declared.Replayed.{Replayed}
+use Rattle.record.specs.Held.{slotOf, recordOf, heldBy, keptOr, answered, ReplayedAs}
+use Rattle.record.proofs.Turns.{kept-added}
+use Rattle.record.proofs.Replays as replays
 use Rattle.entries.specs.declared.Walk.the-variants.{Got, Nothing}
 use Rattle.entries.specs.Walking.{walkAt}
-use Rattle.stored.proofs.Reading.{Rest, none-read, one-read, no-entry}
-use Rattle.file.specs.Parts.{foundOr}
+use Rattle.stored.proofs.Reading.{Rest, none-read, one-read, no-entry, refused-entry, left-over, all-read}
 
--- ---- a record filled
+-- ---- a record read back
 
--- the first i entries are in it
-pub record FilledTo (s : List ℕ) (count i at : ℕ) (r : Record) : Type 0 where
+-- the first i entries are in it, and the walk stands at a place
+pub record ReadTo (s : List ℕ) (count i at : ℕ) (standing : Standing) (log : Record) : Type 0 where
   pub entries : List Entry
-  pub many : length entries ≡ i
-  pub log : r ≡ recordOf entries
+  pub fine : accepted entries ≡ true
+  pub held : ReplayedAs entries (record { log = log; standing = standing })
+  pub many : log .count ≡ i
   pub rest : Rest s count i at entries
 
-pub begun : (s : List ℕ) (count : ℕ) (log : Record) → log ≡ recordOf [] → FilledTo s count 0 6 log
-begun s count log e = record { entries = []; many = refl; log = e; rest = none-read s count }
+pub begun : (s : List ℕ) (count : ℕ) (log : Record) → log ≡ recordOf [] → ReadTo s count 0 6 Unweighed log
+unfolding accepted acceptedAfter recordOf
+begun s count log e =
+    record { entries = []; fine = refl; held = replays.begun log e; many = ap (λ (l : Record). l .count) e; rest = none-read s count }
 
-only : (o : Option (List Entry)) (ys : List ℕ) (fs es : List Entry) → o ≡ Option·map (λ (gs : List Entry). fs ++ gs) (takeEntries 0 ys) → o ≡ some es → fs ≡ es
-unfolding takeEntries
-only o [] fs es r e = sym (append-nil fs) ∙ Option·some-injective (fs ++ []) es (sym r ∙ e)
-only o (y ∷ ys) fs es r e = cc
+module _ (s : List ℕ) (count i at : ℕ) (standing : Standing) (log : Record) (x : ReadTo s count i at standing log) where
+  abbrev now : Replayed
+  now = record { log = log; standing = standing }
 
-module _ (s : List ℕ) (count i at : ℕ) (log : Record) (f : FilledTo s count i at log) where
-  -- there are more, so there is a next one
-  pub no-more : {A : Type 0} (es : List Entry) → i < count → walkAt s at ≡ Nothing → takeEntries count (drop 6 s) ≡ some es → A
-  no-more es h w e =
-      let n = no-entry s count i at (f .entries) (f .rest) h w in
-      let z : _≡_ {A = ℕ} 0 1 = cc in
-      absurd (omega arith)
+  -- what is judged against what stands is judged against the list
+  pub sound-in : Sound i standing
+  sound-in = rw (x .many) at (replays.sound-at (x .entries) now (x .held))
 
-  counts : log .count ≡ i
-  unfolding recordOf
-  counts = ap (λ (l : Record). l .count) (f .log) ∙ f .many
+  number-in : (e : Entry) → numberAt i (plainly standing) e ≡ entryNumber (x .entries) e
+  number-in e = rw (x .many) at (replays.number-is (x .entries) now (x .held) e)
 
-  pub one-more : areBytes s ≡ true → i < count → count ≤ 64 → (e : Entry) (place : ℕ) → walkAt s at ≡ Got e place → FilledTo s count (i + 1) place (record { slots = set (log .slots) i (slotOf e); count = i + 1 })
-  one-more b h k e place w =
-      record {
-        entries = f .entries ++ e ∷ [];
-        many = length-more (f .entries) e ∙ ap (λ (j : ℕ). j + 1) (f .many);
-        log = ap (λ (j : ℕ). record { slots = set (log .slots) j (slotOf e); count = j + 1 }) (sym counts) ∙ ap (λ (l : Record). put l e) (f .log) ∙ put-is (f .entries) e (omega (arith, f .many));
-        rest = one-read s count i at (f .entries) (f .rest) b h e place w;
-      }
+  -- there are more, and no entry, or one that its call refuses
+  pub none-there : i < count → walkAt s at ≡ Nothing → onlyAccepted (takeEntries count (drop 6 s)) ≡ none
+  none-there h w = ap onlyAccepted (no-entry s count i at (x .entries) (x .rest) h w)
 
-  pub filled-all : (es : List Entry) → i ≡ count → takeEntries count (drop 6 s) ≡ some es → log ≡ recordOf es
-  filled-all es z e =
-      let n : count - i ≡ 0 = omega arith in
-      f .log ∙ ap recordOf (only (takeEntries count (drop 6 s)) (drop at s) (f .entries) es (rw n at (f .rest)) e)
+  module _ (b : areBytes s ≡ true) (h : i < count) (e : Entry) (place : ℕ) (w : walkAt s at ≡ Got e place) where
+    pub refused : 0 < numberAt i (plainly standing) e → onlyAccepted (takeEntries count (drop 6 s)) ≡ none
+    refused n = refused-entry s count i at (x .entries) (x .rest) b h e place w (rw (number-in e) at n)
+
+    -- or one more, in the next slot
+    pub one-more : numberAt i (plainly standing) e ≡ 0 → (next : Standing) → plainly next ≡ after (plainly standing) e → Sound (i + 1) next → ReadTo s count (i + 1) place next (record { slots = set (log .slots) i (slotOf e); count = i + 1 })
+    one-more n next p q =
+        let es = x .entries in
+        let no-number = sym (number-in e) ∙ n in
+        let more : Replayed = record { log = record { slots = set (log .slots) i (slotOf e); count = i + 1 }; standing = next } in
+        record {
+          entries = es ++ e ∷ [];
+          fine = accepted-more es e (x .fine) no-number;
+          held = rw (kept-added es e no-number) at (replays.gone-on es now (x .held) e (rw (x .many) n) more (rw (x .many)) p (rw (x .many) q));
+          many = refl;
+          rest = one-read s count i at es (x .rest) b h e place w;
+        }
+
+  -- all are read: bytes may be left over
+  pub more-bytes : i ≡ count → at < length s → onlyAccepted (takeEntries count (drop 6 s)) ≡ none
+  more-bytes e h = ap onlyAccepted (left-over s count i at (x .entries) (x .rest) e h)
+
+  pub whole : i ≡ count → length s ≤ at → onlyAccepted (takeEntries count (drop 6 s)) ≡ some (x .entries)
+  whole e h = rw (all-read s count i at (x .entries) (x .rest) e h, x .fine)
 
 -- ---- what reading answers
+
+-- the record of the list that was found, or 12 and the record as it was
+unfoldable pub foundOr : Record → Option (List Entry) → Kept
+foundOr r none = record { number = 12; log = r }
+foundOr r (some es) = record { number = 0; log = recordOf es }
 
 found-by : (r : Record) (o : Option (List Entry)) → keptOr (firstNumber (12 when isNone o ∷ [])) r (entriesOr (heldBy r) o) ≡ foundOr r o
 unfolding keptOr firstNumber isNone foundOr
@@ -73,3 +95,12 @@ found-by r (some es) = refl
 pub reading-answer : (r : Record) (xs : List ℕ) → answered r (read xs) ≡ foundOr r (fileOf xs)
 unfolding answered callNumber acceptedCall readingNumber
 reading-answer r xs = found-by r (fileOf xs)
+
+-- as the code has it
+pub no-file : (r : Record) (xs : List ℕ) → fileOf xs ≡ none → record { number = 12; log = r } ≡ answered r (read xs)
+unfolding foundOr
+no-file r xs e = sym (reading-answer r xs ∙ ap (foundOr r) e)
+
+pub a-file : (r log : Record) (xs : List ℕ) (es : List Entry) → fileOf xs ≡ some es → log ≡ recordOf es → record { number = 0; log = log } ≡ answered r (read xs)
+unfolding foundOr
+a-file r log xs es e l = ap (λ (j : Record). record { number = 0; log = j }) l ∙ sym (reading-answer r xs ∙ ap (foundOr r) e)

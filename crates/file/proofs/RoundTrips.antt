@@ -24,9 +24,8 @@ use Rattle.record.proofs.Replays.{held-accepted}
 use Rattle.judge.proofs.Accepted.{at-most-64}
 use Rattle.record.proofs.Calls.{kept}
 use Rattle.record.proofs.Following.{Made}
-use Rattle.file.specs.Parts.{foundOr}
 use Rattle.stored.proofs.Parts.{long-enough}
-use Rattle.file.proofs.Reading.{reading-answer}
+use Rattle.file.proofs.Reading.{foundOr, reading-answer}
 use Rattle.file.proofs.write.Reads as write
 use Rattle.file.proofs.read.Reads as read
 

@@ -1,2 +1,1 @@
--- What reading a file answers.
-pub mod Parts
+-- Definitions of the file crate.

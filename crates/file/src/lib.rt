@@ -1,11 +1,12 @@
 // The record's file: writing a record into a lent buffer, and reading one back from any bytes.
 use entries::Walk;
+use judge::Judged;
+use judge::Standing;
 use paper::Written;
 use record::Kept;
 use record::Record;
 use record::Slot;
 use stored::HEADER;
-use stored::Stored;
 ghost use mathlib.Core.Path.{_≡_};
 ghost use mathlib.Core.List.{List, map};
 ghost use mathlib.Core.Option.{some};
@@ -71,33 +72,33 @@ pub fn write(r: Record, out: &mut [u8]) -> Written
     Written { number: 0, length }
 }
 
-// A record of the entries of a file, as many as its count says.
-fn filled(s: &[u8], count: usize) -> Record
-    requires { ⌜ count ≤ 64 ⌝ }
-    ensures { λ r. ⌜ ((es : List Entry) → takeEntries count (drop 6 (now (s .entry))) ≡ some es → r ≡ recordOf es) ⌝ }
-{
-    let mut log = Record::fresh();
-    let mut at = HEADER;
-    let mut i = 0;
-    while i < count {
-        let Walk::Got(entry, place) = reader::entry_at(s, at) else {
-            return log;
-        };
-        log.slots[i] = Slot { entry };
-        log.count = i + 1;
-        at = place;
-        i += 1;
-    }
-    log
-}
-
 // Reading back: 12 where the bytes are no file, and then the record is as it was.
 pub fn read(r: Record, s: &[u8]) -> Kept
     ensures { λ k. ⌜ k ≡ answered r (journal.read (now (s .entry))) ⌝ }
 {
-    let Stored::File(found) = stored::survey(s) else {
+    if !stored::is_headed(s) {
         return Kept { number: 12, log: r };
-    };
-    let log = filled(s, found.count);
+    }
+    let count = s[5] as usize;
+    let mut log = Record::fresh();
+    let mut standing = Standing::Unweighed;
+    let mut at = HEADER;
+    let mut i = 0;
+    while i < count {
+        let Walk::Got(entry, place) = reader::entry_at(s, at) else {
+            return Kept { number: 12, log: r };
+        };
+        let Judged::Accepted(next) = judge::judge(i, standing, entry) else {
+            return Kept { number: 12, log: r };
+        };
+        log.slots[i] = Slot { entry };
+        log.count = i + 1;
+        standing = next;
+        at = place;
+        i += 1;
+    }
+    if at < s.len() {
+        return Kept { number: 12, log: r };
+    }
     Kept { number: 0, log }
 }

@@ -1,8 +1,8 @@
 -- Which bytes have a right header, and what they are laid out as then: by the paper's tests, in its order. Assumes nothing.
 use mathlib.Core.Path.{_≡_, refl, sym, ap, _∙_}
-use mathlib.Core.Bool.{Bool, true, false, cond, _&&_, and-false}
+use mathlib.Core.Bool.{true, false, cond, _&&_, and-false}
 use mathlib.Core.List.{List, [], _∷_}
-use mathlib.Core.Option.{Option, none, some, bind, Option·none-ne-some}
+use mathlib.Core.Option.{Option, none, some, bind}
 use Prim.Native.Nat.{ℕ, _-_, _≤_, _<_}
 use native.Mathlib.Decide.{decLe}
 use native.Mathlib.Omega.{arith}
@@ -18,7 +18,6 @@ use Rattle.paper.specs.File.{numberOf, version, takeNumber, takeEntries, takeBo
 use Rattle.paper.specs.Refusals.{accepted, onlyAccepted, fileOf}
 use Rattle.format.specs.Numbers.{bytes-drop}
 use Rattle.format.specs.Entries.{entries-written}
-use Rattle.format.specs.Files.{only-accepted}
 use Rattle.judge.proofs.Accepted.{at-most-64}
 use Rattle.stored.specs.Header.{headed}
 
@@ -102,17 +101,6 @@ module _ (xs : List ℕ) where
     pub good-header : headed xs ≡ true → fileOf xs ≡ onlyAccepted (takeEntries (getD xs 5 0) (drop 6 xs))
     unfolding fileOf
     good-header e = ap onlyAccepted (rw e at (by-header b))
-
-    -- the entries of a file stand behind its header
-    entries-by : (t : Bool) → headed xs ≡ t → (es : List Entry) → fileOf xs ≡ some es → takeEntries (length es) (drop 6 xs) ≡ some es
-    entries-by true e es h =
-        let k = only-accepted (takeEntries (getD xs 5 0) (drop 6 xs)) es (sym (good-header e) ∙ h) .1 in
-        let n = entries-written (getD xs 5 0) (drop 6 xs) es (bytes-drop 6 xs b) k .1 in
-        rw n at k
-    entries-by false e es h = absurd (Option·none-ne-some es (sym (bad-header e) ∙ h))
-
-    pub entries-of : (es : List Entry) → fileOf xs ≡ some es → takeEntries (length es) (drop 6 xs) ≡ some es
-    entries-of es h = entries-by (headed xs) refl es h
 
     -- more entries than a record may have
     pub too-many : headed xs ≡ true → 64 < getD xs 5 0 → fileOf xs ≡ none

@@ -48,7 +48,7 @@ pub fn put_header(out: &mut [u8], behind: usize, count: usize)
 }
 
 // Whether the length and the version are right.
-fn is_headed(s: &[u8]) -> bool
+pub fn is_headed(s: &[u8]) -> bool
     ensures { λ b. ⌜ b ≡ headed (now (s .entry)) ⌝ }
 {
     if s.len() < HEADER {

@@ -1,73 +1,190 @@
--- `file::read` meets its contract: what is found in the bytes is the list that they are the file of, and the record is
--- filled with it. Assumes nothing.
+-- `file::read` meets its contract. The loop's invariant: the first i entries are in the record, and what stands is theirs
+-- (`ReadTo`). Assumes nothing.
 use borrow.Author.Needs.{needs}
-use mathlib.Core.Path.{_≡_, sym, ap, _∙_}
+use mathlib.Core.Path.{_≡_, sym, _∙_}
 use mathlib.Core.Bool.{true}
 use mathlib.Core.List.{List}
-use Prim.Native.Nat.{ℕ, _≤_}
+use Prim.Native.Nat.{ℕ, _-_, _≤_, _<_}
 use native.Mathlib.Omega.{arith}
-use lib.ListN.{length, drop}
+use lib.ListN.{getD, drop}
 use lib.Pow.{areBytes}
+use Rattle.laws.specs.Tests.{failed, passed}
+use Rattle.paper.specs.declared.Entry.{Entry}
 use Rattle.paper.specs.File.{takeEntries}
-use Rattle.paper.specs.Refusals.{fileOf}
+use Rattle.paper.specs.Refusals.{onlyAccepted, fileOf}
 use Rattle.format.specs.Numbers.{bytes-at}
-use Rattle.format.specs.Files.{file-accepted}
-use Rattle.judge.proofs.Accepted.{at-most-64}
-use Rattle.record.proofs.Calls.{kept}
-use Rattle.stored.specs.declared.Stored.the-variants.{File}
-use Rattle.stored.specs.Found.{Finds}
-use Rattle.stored.proofs.Headers.{entries-of}
-use Rattle.file.specs.Parts.{foundOr}
-use Rattle.file.proofs.Reading.{reading-answer}
+use Rattle.judge.proofs.Judging.{room-of}
+use Rattle.entries.specs.declared.Walk.the-variants.{Got}
+use Rattle.entries.specs.Walking.{walkAt}
+use Rattle.stored.specs.Header.{headed}
+use Rattle.stored.proofs.Headers.{enough-bytes, bad-header, good-header}
+use Rattle.file.proofs.Reading.{ReadTo, begun, sound-in, none-there, refused, one-more, more-bytes, whole, no-file, a-file}
 use Rattle.file.proofs.read.Statement.{statement}
 use Rattle.file.proofs.read.Tie as tie
 
+abbrev Inv-loop : tie.InvT-loop
+Inv-loop r s count log₀ standing₀ at₀ i₀ log standing at i = (i ≤ count) × ReadTo s count i at standing log
+
+abbrev μ-loop : tie.MeasureT-loop
+μ-loop r s count log₀ standing₀ at₀ i₀ log standing at i = count - i
+
 -- the slice is one of bytes
-bytes : (c : tie.After-shared-slice-known) → areBytes (c .before .args .s .now) ≡ true
+bytes : (c : tie.After-shared-slice-known Inv-loop μ-loop) → areBytes (c .before .args .s .now) ≡ true
 bytes c = bytes-at (c .before .args .s .now) (λ i h. c .shared-slice-known .given i .fits)
 
-survey-requires : tie.Need-survey-requires
-survey-requires c κs = search needs
+is-headed-requires : tie.Need-is-headed-requires Inv-loop μ-loop
+is-headed-requires c κs = search needs
 
-enum-known-found : tie.Need-enum-known-found
-enum-known-found c = search needs
+returns : tie.Need-returns Inv-loop μ-loop
+returns c =
+    let n = c .before in
+    let a = n .before .before .args in
+    no-file (a .r) (a .s .now) (bad-header (a .s .now) (bytes (n .before)) (failed (n .is-headed .ensures) (c .if1 .taken)))
 
-enum-told : tie.Need-enum-told
+-- the header is right
+right : (c : tie.Else1 Inv-loop μ-loop) → headed (c .before .before .before .args .s .now) ≡ true
+right c = passed (c .before .is-headed .ensures) (c .if1 .left)
+
+-- so what is read behind it decides
+module _ (c : tie.Else1 Inv-loop μ-loop) where
+  abbrev bytesRead : List ℕ
+  bytesRead = c .before .before .before .args .s .now
+
+  found : fileOf bytesRead ≡ onlyAccepted (takeEntries (getD bytesRead 5 0) (drop 6 bytesRead))
+  found = good-header bytesRead (bytes (c .before .before)) (right c)
+
+shared-slice-read-count : tie.Need-shared-slice-read-count Inv-loop μ-loop
+shared-slice-read-count c = omega (arith, enough-bytes (c .before .before .before .before .args .s .now) (right (c .before)))
+
+cast-count : tie.Need-cast-count Inv-loop μ-loop
+cast-count c = omega (arith, c .shared-slice-known2 .given 5)
+
+fresh-requires : tie.Need-fresh-requires Inv-loop μ-loop
+fresh-requires c κs = search needs
+
+loop-holds : tie.Need-loop-holds Inv-loop μ-loop
+loop-holds c = (omega arith, begun _ _ _ (c .fresh .ensures))
+
+entry-at-requires : tie.Need-entry-at-requires Inv-loop μ-loop
+entry-at-requires c κs = search needs
+
+enum-known-entry : tie.Need-enum-known-entry Inv-loop μ-loop
+enum-known-entry c = search needs
+
+enum-told : tie.Need-enum-told Inv-loop μ-loop
 enum-told c = search needs
 
-returns : tie.Need-returns
-unfolding foundOr
-returns c =
-    let p = c .before .before in
-    let a = p .before .before .args in
-    let none-is = rw (c .enum-told .given .1) at (p .survey .ensures) in
-    sym (reading-answer (a .r) (a .s .now) ∙ ap (foundOr (a .r)) none-is)
-
--- what was found is a list, and its contents
-module _ (c : tie.After-known-told) where
-  abbrev bytesRead : List ℕ
-  bytesRead = c .before .before .before .before .before .args .s .now
-
-  found : Finds bytesRead (fileOf bytesRead) (File (c .before .found .given .0 .0))
-  found = rw (c .before .found .given .1) at (c .before .before .before .survey .ensures)
-
-  most : length (found .0) ≤ 64
-  most = at-most-64 (found .0) (file-accepted bytesRead (found .0) (found .1) .0)
-
-filled-requires : tie.Need-filled-requires
-filled-requires c κs = omega (arith, found c .2 .count, most c)
-
-returns-2 : tie.Need-returns-2
-unfolding foundOr
+returns-2 : tie.Need-returns-2 Inv-loop μ-loop
 returns-2 c =
+    let n = c .before .before in
+    let m = n .before .before in
+    let e = m .before .before .before in
+    let l = m .loop in
+    no-file _ _ (found e ∙ none-there _ _ (l .i) (l .at) _ _ (l .inv .1) (n .before .loop-test .taken) (sym (n .entry-at .ensures) ∙ c .enum-told .given .1))
+
+judge-requires : tie.Need-judge-requires Inv-loop μ-loop
+judge-requires c κs =
+    let l = c .before .before .before .before .before .loop in
+    sound-in _ _ (l .i) (l .at) (l .standing) (l .log) (l .inv .1)
+
+-- the entry that was read
+module _ (c : tie.After-judge Inv-loop μ-loop) where
+  abbrev entry : Entry
+  entry = c .before .before .entry .given .0 .0
+
+  got : walkAt (c .before .before .before .before .before .before .before .before .before .before .before .before .args .s .now) (c .before .before .before .before .before .before .loop .at) ≡ Got entry (c .before .before .entry .given .0 .1 .0)
+  got = sym (c .before .before .before .before .entry-at .ensures) ∙ c .before .before .entry .given .1
+
+enum-known-next : tie.Need-enum-known-next Inv-loop μ-loop
+enum-known-next c = search needs
+
+enum-told-2 : tie.Need-enum-told-2 Inv-loop μ-loop
+enum-told-2 c = search needs
+
+returns-3 : tie.Need-returns-3 Inv-loop μ-loop
+returns-3 c =
+    let j = c .before .before in
+    let n = j .before .before .before .before in
+    let m = n .before .before in
+    let e = m .before .before .before in
+    let l = m .loop in
+    let says = rw (c .enum-told2 .given .1) at (j .judge .ensures) in
+    no-file _ _ (found e ∙ refused _ _ (l .i) (l .at) _ _ (l .inv .1) (bytes (e .before .before)) (n .before .loop-test .taken) (entry j) _ (got j) (says .1))
+
+-- an accepted entry finds a slot
+within : (c : tie.After-known-told2 Inv-loop μ-loop) → c .before .before .before .before .before .before .before .before .before .loop .i < 64
+within c =
+    let j = c .before .before .before in
+    let says = rw (c .before .next .given .1) at (j .judge .ensures) in
+    room-of (j .before .before .before .before .before .before .loop .i) _ _ (says .0)
+
+mul-t20 : tie.Need-mul-t20 Inv-loop μ-loop
+mul-t20 c = omega (arith, within c)
+
+element-set-from-log : tie.Need-element-set-from-log Inv-loop μ-loop
+element-set-from-log c = within c
+
+add-log : tie.Need-add-log Inv-loop μ-loop
+add-log c = omega (arith, within c)
+
+add-i : tie.Need-add-i Inv-loop μ-loop
+add-i c = omega (arith, within c)
+
+loop-less : tie.Need-loop-less Inv-loop μ-loop
+loop-less c = search needs
+
+loop-again : tie.Need-loop-again Inv-loop μ-loop
+loop-again c =
     let k = c .before in
-    let b = k .before .before .before .before in
-    let f = found k in
-    let there = entries-of (bytesRead k) (bytes b) (f .0) (f .1) in
-    let log = c .filled .ensures (f .0) (ap (λ (n : ℕ). takeEntries n (drop 6 (bytesRead k))) (f .2 .count) ∙ there) in
-    ap kept log ∙ sym (reading-answer (b .before .args .r) (bytesRead k) ∙ ap (foundOr (b .before .args .r)) (f .1))
+    let j = k .before .before in
+    let n = j .before .before .before .before in
+    let m = n .before .before in
+    let e = m .before .before .before in
+    let l = m .loop in
+    let says = rw (k .next .given .1) at (j .judge .ensures) in (
+      omega arith,
+      one-more _ _ (l .i) (l .at) _ _ (l .inv .1) (bytes (e .before .before)) (n .before .loop-test .taken) (entry j) _ (got j) (says .0) _ (says .1) (says .2),
+    )
+
+returns-4 : tie.Need-returns-4 Inv-loop μ-loop
+returns-4 c =
+    let m = c .before .before in
+    let l = m .loop in
+    let e = m .before .before .before in
+    no-file _ _ (found e ∙ more-bytes _ _ (l .i) (l .at) _ _ (l .inv .1) (omega arith) (c .if2 .taken))
+
+returns-5 : tie.Need-returns-5 Inv-loop μ-loop
+returns-5 c =
+    let m = c .before .before in
+    let l = m .loop in
+    let e = m .before .before .before in
+    a-file _ _ _ _ (found e ∙ whole _ _ (l .i) (l .at) _ _ (l .inv .1) (omega arith) (c .if2 .left)) (l .inv .1 .held .log)
 
 pub read-spec : {M : Type 1} → statement M
 read-spec =
     tie.close
-    (tie.spec survey-requires enum-known-found enum-told returns filled-requires returns-2)
+    (tie.spec
+    Inv-loop
+    μ-loop
+    is-headed-requires
+    returns
+    shared-slice-read-count
+    cast-count
+    fresh-requires
+    loop-holds
+    entry-at-requires
+    enum-known-entry
+    enum-told
+    returns-2
+    judge-requires
+    enum-known-next
+    enum-told-2
+    returns-3
+    mul-t20
+    element-set-from-log
+    add-log
+    add-i
+    loop-less
+    loop-again
+    returns-4
+    returns-5)
