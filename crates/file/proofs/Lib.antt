@@ -1,4 +1,6 @@
--- What the proofs share: the bytes of a record's entries, what is written in all, and a record filled from a file.
+-- What the proofs share: the longest file, the bytes of a record's entries, what is written in all, a record read back, and
+-- the round trips.
+pub mod Lengths
 pub mod Slots
 pub mod Writing
 pub mod Reading

@@ -1,1 +1,2 @@
--- Definitions of the file crate.
+-- How long a file may be.
+pub mod Longest

@@ -8,20 +8,26 @@ use record::Record;
 use record::Slot;
 use stored::HEADER;
 ghost use mathlib.Core.Path.{_≡_};
-ghost use mathlib.Core.List.{List, map};
-ghost use mathlib.Core.Option.{some};
+ghost use mathlib.Core.List.{map};
 ghost use Prim.Native.Nat.{_≤_};
-ghost use lib.ListN.{length, drop};
+ghost use lib.ListN.{length};
 ghost use Rattle.laws.specs.Written.{written};
-ghost use Rattle.paper.specs.declared.Entry.{Entry};
-ghost use Rattle.paper.specs.File.{entryBytes, fileBytes, takeEntries};
+ghost use Rattle.paper.specs.File.{entryBytes, fileBytes};
 ghost use Rattle.paper.specs.Rows.{joined};
 ghost use Rattle.paper.specs.Answers.{writtenAnswer};
 ghost use Rattle.paper.specs.Journal as journal;
-ghost use Rattle.record.specs.Held.{recordOf, slotted, heldBy, answered};
+ghost use Rattle.record.specs.Held.{slotted, heldBy, answered};
+ghost use Rattle.file.specs.Longest.{IsLongest};
 
 // The longest file, that of 64 sheets.
 pub const LONGEST: usize = 3910;
+
+// The longest file's length, as a promise.
+pub fn longest() -> usize
+    ensures { λ n. ⌜ IsLongest n ⌝ }
+{
+    LONGEST
+}
 
 // How many bytes the file of a record takes.
 fn length_of(r: Record) -> usize
