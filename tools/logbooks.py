@@ -1,5 +1,5 @@
-"""The logbook's language, read and written by the oracle's reckoning: what the programs `logbooks`, `logbook` and `show` take
-and print, and the samples' placards."""
+"""The logbook's language, read and written by the oracle's reckoning: what the program `logbooks` takes and prints, and the
+samples' placards."""
 
 import contextlib
 import io
@@ -228,7 +228,7 @@ def figures():
     assert plates.ends_of(sample("discus_tail_lead"))[0] == (89, 110)
 
 
-# What the programs take and print.
+# What the program takes and prints.
 
 
 def report():
@@ -247,18 +247,3 @@ def placards():
     """The samples' placards, beside them."""
     for name in IN_TURN:
         (SAMPLES / f"{name}.placard").write_bytes(plate_of(name)[2])
-
-
-def sample_file():
-    """What `logbook` prints of the Blanik."""
-    sys.stdout.buffer.write(file_of(sample("blanik_l13_normal")))
-
-
-def sample_listing():
-    """What `show` prints of the Astir with its bars."""
-    sys.stdout.buffer.write(listing(sample("astir_cs_two_bars")))
-
-
-def sample_listing_taken():
-    """And what it takes."""
-    sys.stdout.buffer.write(file_of(sample("astir_cs_two_bars")))

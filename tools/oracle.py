@@ -6,9 +6,7 @@
     python3 tools/oracle.py logbooks > crates/logbooks/stdout
     python3 tools/oracle.py logbook-cases > crates/logbooks/stdin
     python3 tools/oracle.py sample-placards    (writes samples/*.placard)
-    python3 tools/oracle.py sample-file > crates/logbook/stdout
-    python3 tools/oracle.py listed-file > crates/show/stdin
-    python3 tools/oracle.py sample-listing > crates/show/stdout
+    python3 tools/oracle.py programs    (writes stdin and stdout of placard, full_file, long_file, full_plate, show, logbook)
 
 A journal is the tuple of the entries accepted so far. A call takes a journal and answers its number, 0 where it is
 accepted, and the journal afterwards.
@@ -369,6 +367,7 @@ if __name__ == "__main__":
     import files
     import logbooks
     import plates
+    import programs
 
     reports = {
         "cases": cases.report,
@@ -377,9 +376,7 @@ if __name__ == "__main__":
         "logbooks": logbooks.report,
         "logbook-cases": logbooks.cases_taken,
         "sample-placards": logbooks.placards,
-        "sample-file": logbooks.sample_file,
-        "listed-file": logbooks.sample_listing_taken,
-        "sample-listing": logbooks.sample_listing,
+        "programs": programs.write,
     }
     if len(sys.argv) != 2 or sys.argv[1] not in reports:
         sys.exit(f"usage: python3 tools/oracle.py {'|'.join(reports)}")
