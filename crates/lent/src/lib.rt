@@ -143,5 +143,5 @@ pub fn placard(buffer: &[u8], out: &mut [u8]) -> Placard
     };
     let standing = found.standing;
     let sheet = stored::sheet_at(front(buffer), found.sheet);
-    plate::answer(standing, sheet, out)
+    page::answer(standing, sheet, out)
 }

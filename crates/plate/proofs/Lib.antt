@@ -1,5 +1,2 @@
--- What the proofs share: the sheet in force, the rows by their number, the lines in the buffer, and what the call answers.
+-- What the proofs share: the sheet in force.
 pub mod Sheets
-pub mod Rows
-pub mod Buffer
-pub mod Answers

@@ -1,4 +1,4 @@
--- `plate::put_group` meets its contract. The loop's invariant: the first k rows of the group are put, and their blank ones
+-- `group::put_group` meets its contract. The loop's invariant: the first k rows of the group are put, and their blank ones
 -- counted, whatever the balance that the limits are those of. Assumes nothing.
 use borrow.Author.Needs.{needs}
 use mathlib.Core.Path.{_≡_, refl, ap, _∙_}
@@ -12,10 +12,10 @@ use Rattle.sheet.proofs.Accepted.{accepted-sheet}
 use Rattle.balance.specs.Balance.{plain}
 use Rattle.planes.specs.Plane.{allHold}
 use Rattle.line.proofs.Length.{length-line}
-use Rattle.plate.specs.Numbered.{blanks, linesTo, blanksTo}
-use Rattle.plate.proofs.Buffer.{water-in, row-in, line-in, group-room, rear-in, GroupTo, group-begun, group-more}
-use Rattle.plate.proofs.put_group.Statement.{statement}
-use Rattle.plate.proofs.put_group.Tie as tie
+use Rattle.group.specs.Numbered.{blanks, linesTo, blanksTo}
+use Rattle.group.proofs.Buffer.{water-in, row-in, line-in, group-room, rear-in, GroupTo, group-begun, group-more}
+use Rattle.group.proofs.put_group.Statement.{statement}
+use Rattle.group.proofs.put_group.Tie as tie
 
 abbrev Inv-loop : tie.InvT-loop
 Inv-loop s j waters out₀ rear limits first none₀ k₀ out none k =

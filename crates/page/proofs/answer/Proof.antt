@@ -1,4 +1,4 @@
--- `plate::answer` meets its contract: each way out is the definition on what settles it, for every list of which that stands.
+-- `page::answer` meets its contract: each way out is the definition on what settles it, for every list of which that stands.
 -- Assumes nothing.
 use borrow.Author.Needs.{needs}
 use mathlib.Core.Path.{_≡_, sym, ap, _∙_}
@@ -14,9 +14,9 @@ use Rattle.sheet.specs.InForce.{found}
 use Rattle.balance.specs.Balance.{plain, Bounded}
 use Rattle.judge.specs.Standing.{plainly}
 use Rattle.judge.proofs.Judging.{of-weighed}
-use Rattle.plate.proofs.Answers.{unweighed, no-sheet, too-short, refused-as, given-as}
-use Rattle.plate.proofs.answer.Statement.{statement}
-use Rattle.plate.proofs.answer.Tie as tie
+use Rattle.page.proofs.Answers.{unweighed, no-sheet, too-short, refused-as, given-as}
+use Rattle.page.proofs.answer.Statement.{statement}
+use Rattle.page.proofs.answer.Tie as tie
 
 enum-known-standing : tie.Need-enum-known-standing
 enum-known-standing c = search needs

@@ -1,4 +1,4 @@
--- `plate::put_rows` meets its contract. The loop's invariant: the rows beside the first j rear loads are put, and their blank
+-- `page::put_rows` meets its contract. The loop's invariant: the rows beside the first j rear loads are put, and their blank
 -- ones counted. Assumes nothing.
 use borrow.Author.Needs.{needs}
 use mathlib.Core.Path.{_≡_, refl, sym, ap, _∙_}
@@ -10,10 +10,11 @@ use Rattle.laws.specs.Written.{written}
 use Rattle.paper.specs.Rows.{rowCount}
 use Rattle.sheet.proofs.Accepted.{accepted-sheet}
 use Rattle.balance.specs.Balance.{plain}
-use Rattle.plate.specs.Numbered.{linesTo, blanksTo}
-use Rattle.plate.proofs.Buffer.{none-put, none-blank, group-room, all-put, all-blank}
-use Rattle.plate.proofs.put_rows.Statement.{statement}
-use Rattle.plate.proofs.put_rows.Tie as tie
+use Rattle.group.specs.Numbered.{linesTo, blanksTo}
+use Rattle.group.proofs.Buffer.{group-room}
+use Rattle.page.proofs.Whole.{none-put, none-blank, all-put, all-blank}
+use Rattle.page.proofs.put_rows.Statement.{statement}
+use Rattle.page.proofs.put_rows.Tie as tie
 
 abbrev Inv-loop : tie.InvT-loop
 Inv-loop s b out₀ rears waters none₀ j₀ out none j =

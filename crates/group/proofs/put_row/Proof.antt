@@ -1,4 +1,4 @@
--- `plate::put_row` meets its contract: the row is the one of the limits, and its line goes into the part of the buffer behind
+-- `group::put_row` meets its contract: the row is the one of the limits, and its line goes into the part of the buffer behind
 -- the lines before it. Assumes nothing.
 use borrow.Author.Needs.{needs}
 use mathlib.Core.Path.{ap, _∙_}
@@ -6,9 +6,9 @@ use Prim.Native.Nat.{_-_, _*_}
 use lib.ListN.{length, take, drop}
 use Rattle.paper.specs.Placard.{line}
 use Rattle.laws.specs.Written.{written, written-part}
-use Rattle.plate.specs.Numbered.{blanks}
-use Rattle.plate.proofs.put_row.Statement.{statement}
-use Rattle.plate.proofs.put_row.Tie as tie
+use Rattle.group.specs.Numbered.{blanks}
+use Rattle.group.proofs.put_row.Statement.{statement}
+use Rattle.group.proofs.put_row.Tie as tie
 
 row-requires : tie.Need-row-requires
 row-requires c κs = search needs

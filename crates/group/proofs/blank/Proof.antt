@@ -1,8 +1,8 @@
--- `plate::blank` meets its contract, by the kind of the row. Assumes nothing.
+-- `group::blank` meets its contract, by the kind of the row. Assumes nothing.
 use borrow.Author.Needs.{needs}
 use native.Mathlib.Omega.{arith}
-use Rattle.plate.proofs.blank.Statement.{statement}
-use Rattle.plate.proofs.blank.Tie as tie
+use Rattle.group.proofs.blank.Statement.{statement}
+use Rattle.group.proofs.blank.Tie as tie
 
 enum-told : tie.Need-enum-told
 enum-told c = search needs

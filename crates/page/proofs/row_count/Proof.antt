@@ -1,11 +1,11 @@
--- `plate::row_count` meets its contract: the product of the loads is what the sheet was accepted by. Assumes nothing.
+-- `page::row_count` meets its contract: the product of the loads is what the sheet was accepted by. Assumes nothing.
 use borrow.Author.Needs.{needs}
 use mathlib.Core.Path.{_≡_}
 use native.Mathlib.Omega.{arith}
 use Rattle.paper.specs.Rows.{rowCount}
 use Rattle.sheet.proofs.Accepted.{accepted-sheet}
-use Rattle.plate.proofs.row_count.Statement.{statement}
-use Rattle.plate.proofs.row_count.Tie as tie
+use Rattle.page.proofs.row_count.Statement.{statement}
+use Rattle.page.proofs.row_count.Tie as tie
 
 loads-requires : tie.Need-loads-requires
 loads-requires c κs = let a = accepted-sheet (c .args .s) (c .pre) in (a .steps .rear .0, omega (arith, a .ranges .rear))

@@ -12,7 +12,7 @@ use Rattle.paper.specs.declared.Row.{Row}
 use Rattle.paper.specs.Record.{Balance}
 use Rattle.paper.specs.Rows.{row, isBlank, below, loadsOf, rowCount, joined, loads}
 use Rattle.paper.specs.Placard.{line, text, textLength, blankOf, blankCount}
-use Rattle.plate.specs.Numbered.{waters, rearAt, waterAt, rowAt, lineAt, blanks}
+use Rattle.group.specs.Numbered.{waters, rearAt, waterAt, rowAt, lineAt, blanks}
 use Rattle.line.proofs.Length.{length-line}
 use Rattle.paper.proofs.Lists.{map-below-more, joined-more, length-joined, joined-at, joined-by-index}
 

@@ -1,0 +1,3 @@
+-- What the proofs share: the lines from none to all, and what the call answers.
+pub mod Whole
+pub mod Answers
