@@ -21,7 +21,7 @@ use Rattle.paper.specs.Placard.{text, textLength, blankCount}
 use Rattle.paper.specs.Refusals.{firstNumber, isNone, placardTooLong, placardNumber}
 use Rattle.paper.specs.Answers.{over, placardAnswer}
 use Rattle.paper.specs.Journal.{weighingStands, sheetStands}
-use Rattle.plate.proofs.Answers.{refusal, unweighed, no-sheet, too-short, given}
+use Rattle.page.proofs.Answers.{refusal, unweighed, no-sheet, too-short, given}
 
 -- a weighing and a sheet stand, and a buffer of n bytes holds the placard
 abbrev pub stands : List Entry → ℕ → Bool

@@ -20,8 +20,8 @@ use Rattle.paper.proofs.Lists.{below-at}
 use Rattle.sheet.proofs.Accepted.{accepted-sheet}
 use Rattle.sheet.proofs.Lists.{sheet-accepted}
 use Rattle.planes.proofs.Rows as rows
-use Rattle.plate.specs.Numbered.{rearAt, waterAt, lineAt}
-use Rattle.plate.proofs.Rows.{loads-by-index, rear-most, water-most, line-at}
+use Rattle.group.specs.Numbered.{rearAt, waterAt}
+use Rattle.group.proofs.Rows.{loads-by-index, rear-most, water-most, line-at}
 
 -- every row fits its fields
 row-fits : (s : Sheet) (b : Balance) (r w : ℕ) → s .front .most ≤ 500000 → RowFits (row s b r w)
