@@ -380,7 +380,7 @@ def orders():
 
 
 def lists():
-    print(f"list, fresh: {numbers(FRESH)}")
+    answered("list, fresh", (0, FRESH))
     answered("list, fresh, taken back", undo(FRESH))
     answered("list, a sheet alone", add(FRESH, SHEET))
     answered("list, a change behind the sheet", add((SHEET,), Change(1, 0, 0)))

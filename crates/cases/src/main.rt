@@ -1,22 +1,19 @@
 // Tries the record's calls on the worked weighings, at every bound, in every order of refusal and along the list.
-// A line is a label, then the call's number; the centre of gravity of the record that it returns, as number, total,
-// moment and centre; the number of taking back from there; and the centre of gravity after that.
+// The cases stand on standard input, a line for each, as texts by the letters of the crate `script`: a label, a colon, and
+// calls that go on from the record that the line before left. A line that begins with # is a comment.
 //
-// The cases are texts by the letters of the crate `script`; a line is of the last call. A case begins with a fresh
-// record, and behind & with the record that the last such case left.
-mod changes;
-mod list;
-mod order;
+// What is printed for a case is its label; the number of its last call; the centre of gravity of the record that this
+// returns, as number, total, moment and centre; the number of taking back from there; and the centre of gravity after
+// that.
 mod report;
-mod sheets;
-mod weighings;
-mod worked_cases;
+
+use libc::STDIN_FILENO;
+
+// All cases.
+const CASES: usize = 65536;
 
 fn main() {
-    worked_cases::run();
-    weighings::run();
-    sheets::run();
-    changes::run();
-    order::run();
-    list::run();
+    let mut input = [0u8; CASES];
+    let n = io::read_full(STDIN_FILENO, &mut input);
+    report::each(&input[..n]);
 }

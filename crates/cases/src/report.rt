@@ -1,4 +1,4 @@
-// The lines that the program prints.
+// A line of output for each line of cases.
 use lines::between;
 use lines::centre_of_gravity;
 use lines::text;
@@ -10,20 +10,10 @@ use script::texts::byte_at;
 use script::texts::place_of;
 use std::num::wrapping_add_usize;
 
-// A line that has only the centre of gravity.
-pub fn reckoned(label: &[u8], r: Record) {
-    text(label);
-    text(b": ");
-    centre_of_gravity(r);
-    text(b"\n");
-}
-
-// A line for what a call answered.
-pub fn answered(title: &[u8], label: &[u8], k: Kept) {
+// What a call answered, behind the label.
+fn answered(k: Kept) {
     let log = k.log;
     let back = log.undo();
-    text(title);
-    text(label);
     text(b": ");
     unsigned(k.number);
     text(b"; ");
@@ -35,30 +25,28 @@ pub fn answered(title: &[u8], label: &[u8], k: Kept) {
     text(b"\n");
 }
 
-// A line for a case. It begins with a fresh record, or behind & with the given one, and hands on what is then of that.
-fn tried(title: &[u8], r: Record, case: &[u8], also: &[u8]) -> Record {
-    let colon = place_of(case, b':');
-    let label = between(case, 0, colon);
-    let calls = between(case, wrapping_add_usize(colon, 2), case.len());
-    if byte_at(calls, 0) == b'&' {
-        let k = played(r, between(calls, 2, calls.len()), also);
-        answered(title, label, k);
-        return k.log;
+// A line; the answer is the record that it leaves.
+fn tried(r: Record, line: &[u8]) -> Record {
+    if byte_at(line, 0) == b'#' {
+        return r;
     }
-    answered(title, label, played(Record::fresh(), calls, also));
-    r
+    let colon = place_of(line, b':');
+    let k = played(r, between(line, wrapping_add_usize(colon, 2), line.len()));
+    text(between(line, 0, colon));
+    answered(k);
+    k.log
 }
 
-// A line for each case of a text. Its calls have also the fields of another text.
-pub fn cases(title: &[u8], also: &[u8], text: &[u8]) {
+// The lines in turn, each with its line feed.
+pub fn each(s: &[u8]) {
     let mut log = Record::fresh();
     let mut from = 0;
     let mut i = 0;
-    while i < text.len() {
-        let x = text[i];
+    while i < s.len() {
+        let x = s[i];
         i += 1;
-        if x == b';' {
-            log = tried(title, log, between(text, from, i), also);
+        if x == b'\n' {
+            log = tried(log, between(s, from, i));
             from = i;
         }
     }

@@ -1,4 +1,4 @@
-// The lines that the program prints.
+// A line of output for each line of cases, and the placard.
 use lines::between;
 use lines::sum;
 use lines::text;
@@ -9,12 +9,10 @@ use record::Kept;
 use record::Record;
 use script::calls::played;
 use script::texts::byte_at;
+use script::texts::digits;
 use script::texts::place_of;
 use std::num::wrapping_add_usize;
 use std::num::wrapping_sub_usize;
-
-// How many bytes most cases lend: sixteen lines.
-pub const LENT: usize = 576;
 
 // The placard into the first n bytes.
 fn placard_first(r: Record, out: &mut [u8], n: usize) -> Placard {
@@ -41,8 +39,8 @@ fn lines_of(s: &[u8]) {
     text(b"\n");
 }
 
-// The rest of a line behind its label, and the placard into n bytes.
-pub fn answered(k: Kept, n: usize) {
+// The rest of a line of output behind its label, and the placard into n bytes.
+fn answered(k: Kept, n: usize) {
     let mut out = [0xAAu8; 9248];
     let p = placard_first(k.log, &mut out, n);
     number(b": ", k.number);
@@ -58,44 +56,30 @@ pub fn answered(k: Kept, n: usize) {
     lines_of(between(&out, 0, p.bytes));
 }
 
-fn labelled(title: &[u8], label: &[u8], k: Kept) {
-    text(title);
-    text(label);
-    answered(k, LENT);
-}
-
-// A case from the first record, or behind & from the other, and what is then of that.
-fn tried(title: &[u8], first: Record, r: Record, case: &[u8]) -> Record {
-    let colon = place_of(case, b':');
-    let label = between(case, 0, colon);
-    let calls = between(case, wrapping_add_usize(colon, 2), case.len());
-    if byte_at(calls, 0) == b'&' {
-        let k = played(r, between(calls, 2, calls.len()), b"");
-        labelled(title, label, k);
-        return k.log;
+// A line; the answer is the record that it leaves.
+fn tried(r: Record, line: &[u8]) -> Record {
+    if byte_at(line, 0) == b'#' {
+        return r;
     }
-    labelled(title, label, played(first, calls, b""));
-    r
+    let space = place_of(line, b' ');
+    let colon = place_of(line, b':');
+    let k = played(r, between(line, wrapping_add_usize(colon, 2), line.len()));
+    text(between(line, wrapping_add_usize(space, 1), colon));
+    answered(k, digits(line, 0) as usize);
+    k.log
 }
 
-// The cases of a text.
-pub fn cases(title: &[u8], first: &[u8], text: &[u8]) {
-    let start = played(Record::fresh(), first, b"").log;
-    let mut log = start;
+// The lines in turn, each with its line feed.
+pub fn each(s: &[u8]) {
+    let mut log = Record::fresh();
     let mut from = 0;
     let mut i = 0;
-    while i < text.len() {
-        let x = text[i];
+    while i < s.len() {
+        let x = s[i];
         i += 1;
-        if x == b';' {
-            log = tried(title, start, log, between(text, from, i));
+        if x == b'\n' {
+            log = tried(log, between(s, from, i));
             from = i;
         }
     }
-}
-
-// A case with room for every placard.
-pub fn long(label: &[u8], calls: &[u8]) {
-    text(label);
-    answered(played(Record::fresh(), calls, b""), 9216);
 }

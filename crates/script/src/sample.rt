@@ -8,7 +8,7 @@ use paper::Station;
 use paper::Weighing;
 
 // The most fields that an entry has.
-pub const FIELDS: usize = 15;
+const FIELDS: usize = 15;
 
 // The fields with the numbers of a text: each stands behind its field's letter.
 fn replaced(fields: [u64; FIELDS], letters: &[u8], text: &[u8]) -> [u64; FIELDS] {
@@ -27,15 +27,15 @@ fn replaced(fields: [u64; FIELDS], letters: &[u8], text: &[u8]) -> [u64; FIELDS]
     now
 }
 
-// The numbers of an ordinary entry, but for those of two texts.
-pub fn fields(letters: &[u8], ordinary: &[u8], other: &[u8], also: &[u8]) -> [u64; FIELDS] {
+// The numbers of an ordinary entry, but for those of another text.
+fn fields(letters: &[u8], ordinary: &[u8], other: &[u8]) -> [u64; FIELDS] {
     let x = replaced([0; FIELDS], letters, ordinary);
-    let x = replaced(x, letters, other);
-    replaced(x, letters, also)
+    replaced(x, letters, other)
 }
 
 // A weighing by the paper's letters, m p q a b n.
-pub fn weighing_of(x: [u64; FIELDS]) -> Weighing {
+pub fn weighing(ordinary: &[u8], other: &[u8]) -> Weighing {
+    let x = fields(b"mpqabn", ordinary, other);
     Weighing {
         m: x[0],
         p: x[1],
@@ -44,10 +44,6 @@ pub fn weighing_of(x: [u64; FIELDS]) -> Weighing {
         b: x[4],
         n: x[5],
     }
-}
-
-pub fn weighing(ordinary: &[u8], other: &[u8], also: &[u8]) -> Weighing {
-    weighing_of(fields(b"mpqabn", ordinary, other, also))
 }
 
 fn station(arm: u64, most: u64, step: u64) -> Station {
@@ -60,7 +56,8 @@ fn station(arm: u64, most: u64, step: u64) -> Station {
 
 // A sheet by F FWD, A AFT, D DRY, W WET, N NLP and l the least load; front seat, rear seat and water tank have the
 // arms a, b, c, the greatest loads m, n, o and the steps s, t, u.
-pub fn sheet_of(x: [u64; FIELDS]) -> Sheet {
+fn sheet(ordinary: &[u8], other: &[u8]) -> Sheet {
+    let x = fields(b"FADWNlamsbntcou", ordinary, other);
     Sheet {
         fwd: signed(x[0]),
         aft: signed(x[1]),
@@ -74,32 +71,26 @@ pub fn sheet_of(x: [u64; FIELDS]) -> Sheet {
     }
 }
 
-fn sheet(ordinary: &[u8], other: &[u8], also: &[u8]) -> Sheet {
-    sheet_of(fields(b"FADWNlamsbntcou", ordinary, other, also))
-}
-
 // A sheet of nine rows.
-pub fn ordinary_sheet(other: &[u8], also: &[u8]) -> Sheet {
+pub fn ordinary_sheet(other: &[u8]) -> Sheet {
     sheet(
         b"F25000 A42500 D380000 W450000 N240000 l55000 \
         a-47500 m110000 s1000 b10000 n100000 t50000 c30000 o100000 u50000",
         other,
-        also,
     )
 }
 
 // A sheet of one row that limits nothing but the front load.
-pub fn lax_sheet(other: &[u8], also: &[u8]) -> Sheet {
+pub fn lax_sheet(other: &[u8]) -> Sheet {
     sheet(
         b"F-2000000 A2000000 D2000000 W2000000 N0 l0 a0 m500000 s1000 b0 n0 t1 c0 o0 u1",
         other,
-        also,
     )
 }
 
 // A change: c, arm and flag.
-pub fn change(other: &[u8], also: &[u8]) -> Change {
-    let x = fields(b"caf", b"c1000 a5000 f0", other, also);
+pub fn change(other: &[u8]) -> Change {
+    let x = fields(b"caf", b"c1000 a5000 f0", other);
     Change {
         c: signed(x[0]),
         arm: signed(x[1]),

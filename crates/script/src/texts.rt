@@ -32,7 +32,7 @@ fn with_digit(n: u64, x: u8) -> u64 {
 }
 
 // The number of the digits from a place on.
-fn digits(s: &[u8], from: usize) -> u64 {
+pub fn digits(s: &[u8], from: usize) -> u64 {
     let mut n = 0;
     let mut i = from;
     while i < s.len() {

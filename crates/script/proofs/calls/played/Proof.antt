@@ -7,10 +7,10 @@ use Rattle.script.proofs.calls.played.Statement.{statement}
 use Rattle.script.proofs.calls.played.Tie as tie
 
 abbrev Inv-loop : tie.InvT-loop
-Inv-loop calls also k₀ from₀ i₀ k from i = i ≤ length calls
+Inv-loop calls k₀ from₀ i₀ k from i = i ≤ length calls
 
 abbrev μ-loop : tie.MeasureT-loop
-μ-loop calls also k₀ from₀ i₀ k from i = length calls - i
+μ-loop calls k₀ from₀ i₀ k from i = length calls - i
 
 loop-holds : tie.Need-loop-holds Inv-loop μ-loop
 loop-holds c = omega arith

@@ -1,25 +1,19 @@
--- `plates::report::cases` ends: its loop counts to the length of the text. Assumes nothing.
+-- `cases::report::each` ends: its loop counts to the length of the lines. Assumes nothing.
 use borrow.Author.Needs.{needs}
 use native.Mathlib.Omega.{arith}
 use Prim.Native.Nat.{_≤_, _-_}
 use lib.ListN.{length}
-use Rattle.plates.proofs.report.cases.Statement.{statement}
-use Rattle.plates.proofs.report.cases.Tie as tie
+use Rattle.cases.proofs.report.each.Statement.{statement}
+use Rattle.cases.proofs.report.each.Tie as tie
 
 abbrev Inv-loop : tie.InvT-loop
-Inv-loop title first text start log₀ from₀ i₀ log from i = i ≤ length text
+Inv-loop s log₀ from₀ i₀ log from i = i ≤ length s
 
 abbrev μ-loop : tie.MeasureT-loop
-μ-loop title first text start log₀ from₀ i₀ log from i = length text - i
+μ-loop s log₀ from₀ i₀ log from i = length s - i
 
 fresh-requires : tie.Need-fresh-requires Inv-loop μ-loop
 fresh-requires c κs = search needs
-
-slice-aggregate-played : tie.Need-slice-aggregate-played Inv-loop μ-loop
-slice-aggregate-played c = search needs
-
-played-requires : tie.Need-played-requires Inv-loop μ-loop
-played-requires c κs = search needs
 
 loop-holds : tie.Need-loop-holds Inv-loop μ-loop
 loop-holds c = omega arith
@@ -51,15 +45,13 @@ loop-again-2 c = omega arith
 returns : tie.Need-returns Inv-loop μ-loop
 returns c = search needs
 
-pub cases-spec : {M : Type 1} → statement M
-cases-spec =
+pub each-spec : {M : Type 1} → statement M
+each-spec =
     tie.close
     (tie.spec
     Inv-loop
     μ-loop
     fresh-requires
-    slice-aggregate-played
-    played-requires
     loop-holds
     shared-slice-read-x
     add-i
