@@ -231,3 +231,22 @@ fn the_header_has_the_same_numbers() {
         assert_eq!(number_in_header(name), Some(size as u64), "{name}");
     }
 }
+
+/// What a constant of a crate's source stands for.
+fn constant_in(path: &str, name: &str) -> Option<usize> {
+    let text = text_of(path);
+    let (_, rest) = text.split_once(&format!("pub const {name}: usize = "))?;
+    rest.split(';').next()?.replace('_', "").parse().ok()
+}
+
+/// The sources prove of these two that no file and no placard is longer, and
+/// that one has just that length (`file::longest`, `plate::longest`).
+#[test]
+fn the_longest_are_those_that_are_promised() {
+    for (path, size) in [
+        ("crates/file/src/lib.rt", LONGEST_FILE),
+        ("crates/plate/src/lib.rt", LONGEST_PLACARD),
+    ] {
+        assert_eq!(constant_in(path, "LONGEST"), Some(size), "{path}");
+    }
+}
