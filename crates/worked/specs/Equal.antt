@@ -62,5 +62,5 @@ same-answer x y e =
     let bytes = eqb-true (x .0 .bytes) (y .0 .bytes) (left m (r && (b && l)) e₁) in
     let rows = eqb-true (x .0 .rows) (y .0 .rows) (left r (b && l) e₂) in
     let blank = eqb-true (x .0 .blank) (y .0 .blank) (left b l e₃) in
-    let bytes′ = same-list eqb eqb-true (x .1) (y .1) (right b l e₃) in
-    λ i. (record { number = number i; bytes = bytes i; rows = rows i; blank = blank i }, bytes′ i)
+    let buffer = same-list eqb eqb-true (x .1) (y .1) (right b l e₃) in
+    λ i. (record { number = number i; bytes = bytes i; rows = rows i; blank = blank i }, buffer i)
