@@ -4,7 +4,7 @@
 -- The hypotheses are the functions' own promises and nothing else: `weigh.Post` is what the contract of `nodhulika_weigh` in
 -- crates/nodhulika/src/lib.rt promises of one call, and so with the others; `now o` are the bytes of a slice. The conclusion is
 -- the record's, `Demand3`, of the journal of a record that is lent in n bytes (crates/lent/specs: numbersIn, journalIn): its
--- numbers are the table's, and 11 where the buffer has no room for the file afterwards. `room-for-all` (crates/lent/proofs/Runs)
+-- numbers are the table's, and 11 where the buffer has no room for the file afterwards. `room-for-all` (Buffers.antt)
 -- shows that with 3,910 bytes it is the journal itself. Assumes nothing.
 use mathlib.Core.Path.{_≡_, refl, sym, ap, _∙_}
 use mathlib.Core.Bool.{not, _&&_, true≢false}
@@ -32,10 +32,10 @@ use Rattle.paper.specs.Placard.{textLength}
 use Rattle.paper.specs.Refusals.{placardTooLong}
 use Rattle.paper.specs.Answers.{placardAnswer}
 use Rattle.format.specs.Files.{file-length}
-use Rattle.lent.specs.Lent.{heldIn, lentFile, lentCall, lentRead, placardFor, numberIn, journalIn, numbersIn}
-use Rattle.lent.proofs.Fronts.{held-accepted}
+use Rattle.front.specs.Front.{heldIn, placardFor}
+use Rattle.lent.specs.Lent.{lentFile, lentCall, lentRead, numberIn, journalIn, numbersIn}
+use Rattle.front.proofs.Fronts.{held-accepted}
 use Rattle.lent.proofs.Answers.{file-put}
-use Rattle.lent.proofs.Runs.{Holds, Leaves, fresh-leaves, call-leaves, read-leaves}
 use Rattle.nodhulika.specs.Exported.{answerLength, countsOver, placardInto}
 use Rattle.nodhulika.proofs.nodhulika_fresh.Reads as fresh
 use Rattle.nodhulika.proofs.nodhulika_weigh.Reads as weigh
@@ -44,6 +44,7 @@ use Rattle.nodhulika.proofs.nodhulika_change.Reads as change
 use Rattle.nodhulika.proofs.nodhulika_undo.Reads as undo
 use Rattle.nodhulika.proofs.nodhulika_read.Reads as read
 use Rattle.nodhulika.proofs.nodhulika_placard.Reads as placard
+use Rattle.claim.specs.Buffers.{Holds, Leaves, fresh-leaves, call-leaves, read-leaves}
 use Rattle.claim.specs.Calls.{journal-more, numbers-more}
 use Rattle.claim.specs.Endings.{Ending, refused, printed, ending}
 use Rattle.claim.specs.Demand3.{Demand3, demanded}

@@ -1,8 +1,8 @@
 -- The guarantees, in README's order ("What is proved"): each stated in full, and proved by the theorem that it cites. The
 -- hypotheses are lists of calls as they run and single calls, by the calls' own promises: `read.Post` is what the contract of
 -- `file::read` promises of one call (its arguments, its answer, the arguments as it leaves them), and so with the others. What the
--- words mean is in crates/paper/specs, and for the logbook and the library in crates/language/specs, crates/book/specs and
--- crates/lent/specs; docs/ARCHITECTURE.md leads from the paper to each of them. Assumes nothing.
+-- words mean is in crates/paper/specs, and for the logbook and the library in crates/language/specs, crates/book/specs,
+-- crates/front/specs and crates/lent/specs; docs/ARCHITECTURE.md leads from the paper to each of them. Assumes nothing.
 use mathlib.Core.Path.{_≡_}
 use mathlib.Core.Bool.{true}
 use mathlib.Core.List.{List}
@@ -27,7 +27,6 @@ use Rattle.file.proofs.read.Reads as read
 use Rattle.file.proofs.RoundTrips.{accepts-files, accepts-only-files, read-then-written}
 use Rattle.plate.proofs.placard.Reads as placard
 use Rattle.lent.specs.Lent.{numbersIn, journalIn}
-use Rattle.lent.proofs.Runs.{room-for-all}
 use Rattle.nodhulika.proofs.nodhulika_placard.Reads as library-placard
 use Rattle.language.specs.declared.Line.{Line}
 use Rattle.language.specs.Lines.{Means}
@@ -42,6 +41,7 @@ use Rattle.listing.proofs.ReadAgain as read-again
 use Rattle.worked.specs.Table.{table, Says, A-to-K}
 use Rattle.claim.specs.Demand3.{Demand3}
 use Rattle.claim.specs.RecordCalls as on-record
+use Rattle.claim.specs.Buffers.{room-for-all}
 use Rattle.claim.specs.LibraryCalls as of-library
 use Rattle.claim.specs.Records as records
 

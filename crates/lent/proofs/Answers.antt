@@ -1,10 +1,9 @@
 -- What the calls answer, each definition computed on what settles it. Assumes nothing.
 use mathlib.Core.Path.{_≡_, refl, sym, ap, _∙_}
 use mathlib.Core.List.{List, [], _∷_, _++_}
-use mathlib.Core.Option.{Option, none, some}
+use mathlib.Core.Option.{none, some}
 use Prim.Native.Nat.{ℕ, _+_, _-_, _≤_, _<_}
 use native.Mathlib.Omega.{arith}
-use lib.IntN.{pos}
 use lib.ListN.{length, take, drop}
 use lib.Seq.{take-all, length-take-le}
 use borrow.Author.Tests.{eq-eqb, ne-eqb}
@@ -12,12 +11,11 @@ use Rattle.laws.specs.Lists.{length-more}
 use Rattle.laws.specs.Written.{written}
 use Rattle.paper.specs.declared.Entry.{Entry}
 use Rattle.paper.specs.declared.Entry.the-variants as entry
-use Rattle.paper.specs.declared.Placard.{Placard}
 use Rattle.paper.specs.declared.Written.{Written}
 use Rattle.paper.specs.Rows.{joined}
 use Rattle.paper.specs.File.{entryBytes, fileBytes}
 use Rattle.paper.specs.Refusals.{entryNumber, fileOf, firstNumber, isNone, readingNumber}
-use Rattle.paper.specs.Answers.{over, centreRefused, centreAnswer, placardRefused, placardAnswer}
+use Rattle.paper.specs.Answers.{over}
 use Rattle.paper.specs.Journal.{Call, undo, read, callOf, callNumber, acceptedCall, withoutLast, entriesOr}
 use Rattle.paper.proofs.Lists.{last-apart}
 use Rattle.format.specs.Files.{file-accepted}
@@ -25,8 +23,9 @@ use Rattle.record.proofs.Calls.{undo-bare, undo-some}
 use Rattle.stored.specs.Header.{headerOf}
 use Rattle.stored.specs.Found.{bytesIn}
 use Rattle.stored.proofs.Parts.{file-size, too-short, long-enough}
-use Rattle.lent.specs.Lent.{heldIn, checkNumber, lentFile, lentBy, lentCall, lentRead, centreFor, placardFor}
-use Rattle.lent.proofs.Fronts.{held-file, held-room}
+use Rattle.front.specs.Front.{heldIn}
+use Rattle.lent.specs.Lent.{lentFile, lentBy, lentCall, lentRead}
+use Rattle.front.proofs.Fronts.{held-file, held-room}
 use Rattle.lent.proofs.Changed.{file-more, put-again, entry-put, entry-left}
 
 -- ---- a file at the front
@@ -78,17 +77,6 @@ module _ (s : List ℕ) (es : List Entry) (e : Entry) (end : ℕ) (h : end ≤ l
       let many : count + 1 ≡ length fs = omega (arith, length-more es e) in
       ap (λ (xs : List ℕ). (0, xs)) (put-again fs s t last (behind - 4) (count + 1) size many (ap (drop 6) put ∙ entry-put s es there e) l)
       ∙ sym (file-put fs s (omega (arith, ends, file-more es e)))
-
--- ---- whether there is one
-
-module _ (s : List ℕ) where
-  pub no-file : heldIn s ≡ none → 12 ≡ checkNumber s
-  unfolding heldIn checkNumber readingNumber firstNumber isNone
-  no-file h = rw h
-
-  pub a-file : (es : List Entry) → heldIn s ≡ some es → 0 ≡ checkNumber s
-  unfolding heldIn checkNumber readingNumber firstNumber isNone
-  a-file es h = rw h
 
 -- ---- a call
 
@@ -170,21 +158,3 @@ module _ (xs s : List ℕ) where
         let whole : last ≡ xs ++ drop (length xs) s = l ∙ ap (λ (ys : List ℕ). ys ++ drop (length xs) s) (take-all (length xs) xs (omega arith)) in
         ap (λ (ys : List ℕ). (0, ys)) (whole ∙ ap (λ (ys : List ℕ). ys ++ drop (length ys) s) file-is)
         ∙ sym (read-some es h ∙ file-put es s (omega (arith, ap length file-is)))
-
--- ---- the answers of the calls that change nothing
-
-pub centre-twelve : (o : Option (List Entry)) → o ≡ none → record { number = 12; total = 0; moment = pos 0; centre = pos 0 } ≡ centreFor o
-unfolding centreFor centreRefused
-centre-twelve o e = rw e
-
-pub centre-held : (o : Option (List Entry)) (es : List Entry) → o ≡ some es → centreAnswer es ≡ centreFor o
-unfolding centreFor
-centre-held o es e = rw e
-
-pub placard-twelve : (o : Option (List Entry)) (out : List ℕ) → o ≡ none → (record { number = 12; bytes = 0; rows = 0; blank = 0 }, out) ≡ placardFor o out
-unfolding placardFor placardRefused
-placard-twelve o out e = rw e
-
-pub placard-held : (o : Option (List Entry)) (es : List Entry) (out last : List ℕ) (a : Placard) → o ≡ some es → (a ≡ placardAnswer es out .0) × (last ≡ placardAnswer es out .1) → (a, last) ≡ placardFor o out
-unfolding placardFor
-placard-held o es out last a e p = rw (e, p .0, p .1)

@@ -17,7 +17,7 @@ use Rattle.paper.proofs.Lists.{joined-last, last-apart}
 use Rattle.stored.specs.Header.{headerOf}
 use Rattle.stored.specs.Found.{bytesIn}
 use Rattle.stored.proofs.Parts.{length-header, file-parts, file-size}
-use Rattle.lent.proofs.Fronts.{behind-header}
+use Rattle.front.proofs.Fronts.{behind-header}
 
 -- the bytes of one entry more
 bytes-more : (es : List Entry) (e : Entry) → bytesIn (es ++ e ∷ []) ≡ bytesIn es ++ entryBytes e

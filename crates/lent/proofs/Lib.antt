@@ -1,5 +1,3 @@
--- What the proofs share: a buffer that holds a list, a file changed in place, what the calls answer, and lists of them.
-pub mod Fronts
+-- What the proofs share: a file changed in place, and what the calls answer.
 pub mod Changed
 pub mod Answers
-pub mod Runs

@@ -1,31 +1,16 @@
--- A record lent as its file at the front of a buffer: the list that the buffer holds, and what each call answers and leaves of
--- it. The numbers are the paper's: 12 where the buffer holds no record, then the call's own, then 11 where the buffer is
--- shorter than the file afterwards. A refusal leaves every byte.
+-- A record lent as its file at the front of a buffer: what each call that changes it answers and leaves of the buffer. The numbers
+-- are the paper's: 12 where the buffer holds no record, then the call's own, then 11 where the buffer is shorter than the file
+-- afterwards. A refusal leaves every byte.
 use mathlib.Core.Bool.{cond}
 use mathlib.Core.List.{List, []}
 use mathlib.Core.Option.{Option, none, some}
-use Prim.Native.Nat.{ℕ, _+_}
+use Prim.Native.Nat.{ℕ}
 use lib.Dec.{eqb}
-use lib.ListN.{take}
 use Rattle.paper.specs.declared.Entry.{Entry}
-use Rattle.paper.specs.declared.CentreOfGravity.{CentreOfGravity}
-use Rattle.paper.specs.declared.Placard.{Placard}
-use Rattle.paper.specs.File.{numberOf}
-use Rattle.paper.specs.Refusals.{fileOf, readingNumber, writingNumber}
-use Rattle.paper.specs.Answers.{centreRefused, centreAnswer, placardRefused, placardAnswer, writtenAnswer}
+use Rattle.paper.specs.Refusals.{writingNumber}
+use Rattle.paper.specs.Answers.{writtenAnswer}
 use Rattle.paper.specs.Journal.{Call, read, callNumber, acceptedCall, journalBy, numbersBy}
-
--- the bytes of a buffer that its file takes: four, and as many as these say
-unfoldable pub fileIn : List ℕ → List ℕ
-fileIn xs = take (4 + numberOf (take 4 xs)) xs
-
--- the list that a buffer holds, none where no file stands at its front; what stands behind the file is free
-unfoldable pub heldIn : List ℕ → Option (List Entry)
-heldIn xs = fileOf (fileIn xs)
-
--- whether it holds one: 0, or 12
-unfoldable pub checkNumber : List ℕ → ℕ
-checkNumber xs = readingNumber (fileIn xs)
+use Rattle.front.specs.Front.{heldIn}
 
 -- the file of a list at the front of a buffer, 11 where the buffer is too short for it: the number, and the buffer
 unfoldable pub lentFile : List Entry → List ℕ → ℕ × List ℕ
@@ -57,15 +42,3 @@ journalIn n xs = journalBy (numberIn n) [] xs
 
 unfoldable pub numbersIn : ℕ → List Call → List ℕ
 numbersIn n xs = numbersBy (numberIn n) [] xs
-
--- ---- the calls that change no record
-
--- centre of gravity
-unfoldable pub centreFor : Option (List Entry) → CentreOfGravity
-centreFor none = centreRefused 12
-centreFor (some es) = centreAnswer es
-
--- placard into another buffer: the answer, and that buffer
-unfoldable pub placardFor : Option (List Entry) → List ℕ → Placard × List ℕ
-placardFor none out = placardRefused 12 out
-placardFor (some es) out = placardAnswer es out

@@ -1,8 +1,6 @@
-// The calls on a record that is lent as its file at the front of a buffer. The file is surveyed in place and changed in place;
-// what stands behind it in the buffer is free and stays. Each call answers by the paper's number, 0 where it is accepted.
-use paper::CentreOfGravity;
+// The calls that change a record which is lent as its file at the front of a buffer. The file is surveyed in place and changed in
+// place; what stands behind it in the buffer is free and stays. Each call answers by the paper's number, 0 where it is accepted.
 use paper::Entry;
-use paper::Placard;
 use stored::HEADER;
 use stored::Stored;
 ghost use mathlib.Core.Path.{_≡_};
@@ -12,39 +10,7 @@ ghost use lib.ListN.{length, take};
 ghost use Rattle.paper.specs.declared.Entry.{Entry};
 ghost use Rattle.paper.specs.File.{fileBytes};
 ghost use Rattle.paper.specs.Journal.{callOf, undo as Journal·undo};
-ghost use Rattle.stored.specs.Found.{Finds};
-ghost use Rattle.lent.specs.Lent.{fileIn, heldIn, checkNumber, lentFile, lentCall, lentRead, centreFor, placardFor};
-
-// The bytes that the file at the front takes, by the length that it begins with; all of them where that is too long.
-fn front(buffer: &[u8]) -> &[u8]
-    ensures { λ r. ⌜ now r ≡ fileIn (now (buffer .entry)) ⌝ }
-{
-    if buffer.len() < 4 {
-        return buffer;
-    }
-    let behind = words::number_at(buffer, 0, 4) as usize;
-    if buffer.len() - 4 < behind {
-        return buffer;
-    }
-    &buffer[..behind + 4]
-}
-
-// What the buffer holds.
-fn held(buffer: &[u8]) -> Stored
-    ensures { λ r. ⌜ Finds (fileIn (now (buffer .entry))) (heldIn (now (buffer .entry))) r ⌝ }
-{
-    stored::survey(front(buffer))
-}
-
-// Whether the buffer holds a record: 0, or 12.
-pub fn check(buffer: &[u8]) -> u64
-    ensures { λ n. ⌜ n ≡ checkNumber (now (buffer .entry)) ⌝ }
-{
-    match held(buffer) {
-        Stored::Nothing => 12,
-        Stored::File(_) => 0,
-    }
-}
+ghost use Rattle.lent.specs.Lent.{lentFile, lentCall, lentRead};
 
 // A fresh record at the front of the buffer: 11 where it is too short.
 pub fn fresh(buffer: &mut [u8]) -> u64
@@ -74,7 +40,7 @@ fn append(buffer: &mut [u8], end: usize, count: usize, e: Entry) -> u64
 pub fn add(buffer: &mut [u8], e: Entry) -> u64
     ensures { λ n. ⌜ (n, now (buffer .exit)) ≡ lentCall (callOf e) (now (buffer .entry)) ⌝ }
 {
-    let Stored::File(found) = held(buffer) else {
+    let Stored::File(found) = front::held(buffer) else {
         return 12;
     };
     let standing = found.standing;
@@ -89,7 +55,7 @@ pub fn add(buffer: &mut [u8], e: Entry) -> u64
 pub fn undo(buffer: &mut [u8]) -> u64
     ensures { λ n. ⌜ (n, now (buffer .exit)) ≡ lentCall Journal·undo (now (buffer .entry)) ⌝ }
 {
-    let Stored::File(found) = held(buffer) else {
+    let Stored::File(found) = front::held(buffer) else {
         return 12;
     };
     if found.count == 0 {
@@ -111,37 +77,4 @@ pub fn read(buffer: &mut [u8], file: &[u8]) -> u64
     }
     bytes::copy(file, buffer);
     0
-}
-
-// Total, moment and empty centre of gravity.
-pub fn centre(buffer: &[u8]) -> CentreOfGravity
-    ensures { λ r. ⌜ r ≡ centreFor (heldIn (now (buffer .entry))) ⌝ }
-{
-    let Stored::File(found) = held(buffer) else {
-        return CentreOfGravity {
-            number: 12,
-            total: 0,
-            moment: 0,
-            centre: 0,
-        };
-    };
-    let standing = found.standing;
-    centre::answer(standing)
-}
-
-// The placard, into another buffer.
-pub fn placard(buffer: &[u8], out: &mut [u8]) -> Placard
-    ensures { λ a. ⌜ (a, now (out .exit)) ≡ placardFor (heldIn (now (buffer .entry))) (now (out .entry)) ⌝ }
-{
-    let Stored::File(found) = held(buffer) else {
-        return Placard {
-            number: 12,
-            bytes: 0,
-            rows: 0,
-            blank: 0,
-        };
-    };
-    let standing = found.standing;
-    let sheet = stored::sheet_at(front(buffer), found.sheet);
-    page::answer(standing, sheet, out)
 }

@@ -15,7 +15,7 @@ use Rattle.paper.specs.declared.Placard.{Placard}
 use Rattle.paper.specs.File.{bytesOf, complement, fieldBytes, fieldsBytes}
 use Rattle.paper.specs.Answers.{over}
 use Rattle.format.specs.Numbers.{length-bytes}
-use Rattle.lent.specs.Lent.{placardFor}
+use Rattle.front.specs.Front.{placardFor}
 use Rattle.nodhulika.specs.Exported.{answerBytes, centreInto, countsOver, placardInto}
 
 -- three numbers of eight bytes

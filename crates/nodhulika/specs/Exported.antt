@@ -12,7 +12,7 @@ use Rattle.paper.specs.declared.CentreOfGravity.{CentreOfGravity}
 use Rattle.paper.specs.declared.Placard.{Placard}
 use Rattle.paper.specs.File.{Field, fieldsBytes}
 use Rattle.paper.specs.Answers.{over}
-use Rattle.lent.specs.Lent.{placardFor}
+use Rattle.front.specs.Front.{placardFor}
 
 -- a number of an answer: eight bytes in two's complement, the highest first, as the file has its four
 abbrev pub long : Field

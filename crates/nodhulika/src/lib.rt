@@ -13,7 +13,8 @@ ghost use lib.ListN.{length};
 ghost use Rattle.laws.specs.Written.{written};
 ghost use Rattle.paper.specs.File.{bytesOf};
 ghost use Rattle.paper.specs.Journal as journal;
-ghost use Rattle.lent.specs.Lent.{heldIn, checkNumber, lentFile, lentCall, lentRead, centreFor};
+ghost use Rattle.front.specs.Front.{heldIn, checkNumber, centreFor};
+ghost use Rattle.lent.specs.Lent.{lentFile, lentCall, lentRead};
 ghost use Rattle.nodhulika.specs.Exported.{centreInto, placardInto};
 
 // How many bytes the numbers of an answer take.
@@ -32,7 +33,7 @@ pub extern "C" fn nodhulika_fresh(buffer: &mut [u8]) -> u64
 pub extern "C" fn nodhulika_check(buffer: &[u8]) -> u64
     ensures { λ n. ⌜ n ≡ checkNumber (now (buffer .entry)) ⌝ }
 {
-    lent::check(buffer)
+    front::check(buffer)
 }
 
 // A weighing.
@@ -141,7 +142,7 @@ fn put_words(out: &mut [u8], x: u64, y: u64, z: u64)
 pub extern "C" fn nodhulika_centre(buffer: &[u8], answer: &mut [u8]) -> u64
     ensures { λ r. ⌜ (r, now (answer .exit)) ≡ centreInto (centreFor (heldIn (now (buffer .entry)))) (now (answer .entry)) ⌝ }
 {
-    let c = lent::centre(buffer);
+    let c = front::centre(buffer);
     if c.number != 0 {
         return c.number;
     }
@@ -159,9 +160,9 @@ pub extern "C" fn nodhulika_placard(buffer: &[u8], out: &mut [u8], answer: &mut 
 {
     if answer.len() < ANSWER {
         let mut nothing = [0u8; 0];
-        return lent::placard(buffer, &mut nothing).number;
+        return front::placard(buffer, &mut nothing).number;
     }
-    let a = lent::placard(buffer, out);
+    let a = front::placard(buffer, out);
     if a.number != 0 {
         return a.number;
     }

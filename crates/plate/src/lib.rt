@@ -9,8 +9,8 @@ ghost use Rattle.paper.specs.Answers.{placardAnswer};
 ghost use Rattle.sheet.specs.InForce.{found};
 ghost use Rattle.record.specs.Held.{slotted, heldBy};
 
-// The longest placard.
-pub const LONGEST: usize = LINE * paper::MOST_ROWS as usize;
+// The longest placard: 256 lines.
+pub const LONGEST: usize = 9216;
 
 // The last sheet in a record's slots.
 fn in_force(r: Record) -> InForce

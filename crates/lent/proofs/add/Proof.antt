@@ -12,8 +12,9 @@ use Rattle.stored.specs.declared.Stored.the-variants.{File}
 use Rattle.stored.specs.Found.{Finds}
 use Rattle.stored.proofs.Parts.{file-size}
 use Rattle.stored.proofs.Walks.{sound-in, number-in}
-use Rattle.lent.specs.Lent.{fileIn, heldIn, lentFile}
-use Rattle.lent.proofs.Fronts.{held-file, held-room}
+use Rattle.front.specs.Front.{fileIn, heldIn}
+use Rattle.lent.specs.Lent.{lentFile}
+use Rattle.front.proofs.Fronts.{held-file, held-room}
 use Rattle.lent.proofs.Answers.{none-held, refused-held, accepted-held, number-of, list-of}
 use Rattle.lent.proofs.add.Statement.{statement}
 use Rattle.lent.proofs.add.Tie as tie

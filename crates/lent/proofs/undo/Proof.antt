@@ -6,9 +6,9 @@ use Prim.Native.Nat.{ℕ}
 use Rattle.paper.specs.Journal.{undo}
 use Rattle.stored.specs.declared.Stored.the-variants.{File}
 use Rattle.stored.specs.Found.{Finds}
-use Rattle.lent.specs.Lent.{fileIn, heldIn}
+use Rattle.front.specs.Front.{fileIn, heldIn}
 use Rattle.stored.proofs.Parts.{file-size}
-use Rattle.lent.proofs.Fronts.{held-room}
+use Rattle.front.proofs.Fronts.{held-room}
 use Rattle.lent.proofs.Answers.{none-held, bare-held, undone}
 use Rattle.lent.proofs.undo.Statement.{statement}
 use Rattle.lent.proofs.undo.Tie as tie

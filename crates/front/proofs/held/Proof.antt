@@ -1,8 +1,8 @@
--- `lent::held` meets its contract: what is found in the front is what the buffer holds. Assumes nothing.
+-- `front::held` meets its contract: what is found in the front is what the buffer holds. Assumes nothing.
 use borrow.Author.Needs.{needs}
-use Rattle.lent.specs.Lent.{heldIn}
-use Rattle.lent.proofs.held.Statement.{statement}
-use Rattle.lent.proofs.held.Tie as tie
+use Rattle.front.specs.Front.{heldIn}
+use Rattle.front.proofs.held.Statement.{statement}
+use Rattle.front.proofs.held.Tie as tie
 
 front-requires : tie.Need-front-requires
 front-requires c κs = search needs

@@ -1,4 +1,4 @@
--- `lent::placard` meets its contract: what stands and the sheet in force are those of the list that the buffer holds.
+-- `front::placard` meets its contract: what stands and the sheet in force are those of the list that the buffer holds.
 -- Assumes nothing.
 use borrow.Author.Needs.{needs}
 use mathlib.Core.Path.{_≡_, sym, ap, _∙_}
@@ -14,11 +14,11 @@ use Rattle.judge.proofs.Accepted.{at-most-64}
 use Rattle.stored.specs.declared.Stored.the-variants.{File}
 use Rattle.stored.specs.Found.{Finds}
 use Rattle.stored.specs.Found.{sheetAt}
-use Rattle.lent.specs.Lent.{fileIn, heldIn}
-use Rattle.lent.proofs.Fronts.{held-accepted}
-use Rattle.lent.proofs.Answers.{placard-twelve, placard-held}
-use Rattle.lent.proofs.placard.Statement.{statement}
-use Rattle.lent.proofs.placard.Tie as tie
+use Rattle.front.specs.Front.{fileIn, heldIn}
+use Rattle.front.proofs.Fronts.{held-accepted}
+use Rattle.front.proofs.Answers.{placard-twelve, placard-held}
+use Rattle.front.proofs.placard.Statement.{statement}
+use Rattle.front.proofs.placard.Tie as tie
 
 held-requires : tie.Need-held-requires
 held-requires c κs = search needs

@@ -22,9 +22,10 @@ use Rattle.format.specs.Numbers.{length-bytes, number-back}
 use Rattle.format.specs.Files.{file-length, read-written, file-accepted}
 use Rattle.judge.proofs.Accepted.{at-most-64}
 use Rattle.record.proofs.Following.{call-accepted}
-use Rattle.lent.specs.Lent.{fileIn, heldIn, lentFile, lentBy, lentCall, lentRead, numberIn, journalIn, numbersIn}
-use Rattle.lent.proofs.Fronts.{held-accepted}
+use Rattle.front.specs.Front.{fileIn, heldIn}
+use Rattle.lent.specs.Lent.{lentFile, lentBy, lentCall, lentRead, numberIn, journalIn, numbersIn}
+use Rattle.front.proofs.Fronts.{held-accepted}
 use Rattle.lent.proofs.Answers.{file-put, file-short}
 
 -- ---- a file at the front
 

@@ -15,7 +15,7 @@ use Rattle.format.specs.Files.{file-accepted}
 use Rattle.stored.specs.Header.{headerOf}
 use Rattle.stored.specs.Found.{bytesIn}
 use Rattle.stored.proofs.Parts.{length-header, file-parts}
-use Rattle.lent.specs.Lent.{fileIn, heldIn}
+use Rattle.front.specs.Front.{fileIn, heldIn}
 
 -- the first of a list, as many as were taken
 taken-again : (k : ℕ) (s : List ℕ) → take (length (take k s)) s ≡ take k s

@@ -1,8 +1,8 @@
--- `lent::check` meets its contract, by what the buffer holds. Assumes nothing.
+-- `front::check` meets its contract, by what the buffer holds. Assumes nothing.
 use borrow.Author.Needs.{needs}
-use Rattle.lent.proofs.Answers.{no-file, a-file}
-use Rattle.lent.proofs.check.Statement.{statement}
-use Rattle.lent.proofs.check.Tie as tie
+use Rattle.front.proofs.Answers.{no-file, a-file}
+use Rattle.front.proofs.check.Statement.{statement}
+use Rattle.front.proofs.check.Tie as tie
 
 held-requires : tie.Need-held-requires
 held-requires c κs = search needs

@@ -1,11 +1,11 @@
--- `lent::front` meets its contract: the bytes that the length speaks of, or all where there are fewer. Assumes nothing.
+-- `front::front` meets its contract: the bytes that the length speaks of, or all where there are fewer. Assumes nothing.
 use borrow.Author.Needs.{needs}
 use mathlib.Core.Path.{sym}
 use native.Mathlib.Omega.{arith}
 use lib.Seq.{length-take-le}
-use Rattle.lent.proofs.Fronts.{all-of-it, front-of}
-use Rattle.lent.proofs.front.Statement.{statement}
-use Rattle.lent.proofs.front.Tie as tie
+use Rattle.front.proofs.Fronts.{all-of-it, front-of}
+use Rattle.front.proofs.front.Statement.{statement}
+use Rattle.front.proofs.front.Tie as tie
 
 returns : tie.Need-returns
 returns c = all-of-it (c .before .before .args .buffer .now) (omega arith)

@@ -1,4 +1,4 @@
--- `lent::centre` meets its contract: what stands is the balance of the list that the buffer holds. Assumes nothing.
+-- `front::centre` meets its contract: what stands is the balance of the list that the buffer holds. Assumes nothing.
 use borrow.Author.Needs.{needs}
 use mathlib.Core.Path.{_∙_}
 use mathlib.Core.List.{List}
@@ -9,11 +9,11 @@ use Rattle.judge.proofs.Judging.{grown}
 use Rattle.judge.proofs.Accepted.{at-most-64}
 use Rattle.stored.specs.declared.Stored.the-variants.{File}
 use Rattle.stored.specs.Found.{Finds}
-use Rattle.lent.specs.Lent.{fileIn, heldIn}
-use Rattle.lent.proofs.Fronts.{held-accepted}
-use Rattle.lent.proofs.Answers.{centre-twelve, centre-held}
-use Rattle.lent.proofs.centre.Statement.{statement}
-use Rattle.lent.proofs.centre.Tie as tie
+use Rattle.front.specs.Front.{fileIn, heldIn}
+use Rattle.front.proofs.Fronts.{held-accepted}
+use Rattle.front.proofs.Answers.{centre-twelve, centre-held}
+use Rattle.front.proofs.centre.Statement.{statement}
+use Rattle.front.proofs.centre.Tie as tie
 
 held-requires : tie.Need-held-requires
 held-requires c κs = search needs

@@ -1,0 +1,3 @@
+-- What the proofs share: a buffer that holds a list, and what the calls answer.
+pub mod Fronts
+pub mod Answers

@@ -1,0 +1,2 @@
+-- A record at the front of a buffer.
+pub mod Front
