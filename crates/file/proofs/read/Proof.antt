@@ -158,7 +158,7 @@ returns-5 c =
     let m = c .before .before in
     let l = m .loop in
     let e = m .before .before .before in
-    a-file _ _ _ _ (found e ∙ whole _ _ (l .i) (l .at) _ _ (l .inv .1) (omega arith) (c .if2 .left)) (l .inv .1 .held .log)
+    a-file (e .before .before .before .args .r) (l .log) _ _ (found e ∙ whole _ _ (l .i) (l .at) _ _ (l .inv .1) (omega arith) (c .if2 .left)) (l .inv .1 .held .log)
 
 pub read-spec : {M : Type 1} → statement M
 read-spec =
