@@ -1,26 +1,22 @@
 -- What is found at a place: the byte there is the kind, and its row says how much must follow. Assumes nothing.
 use mathlib.Core.Path.{_≡_, refl, sym, ap, _∙_}
-use mathlib.Core.Bool.{Bool, true, false, cond}
 use mathlib.Core.List.{List, [], _∷_, _++_}
-use mathlib.Core.Option.{Option, none, some, Option·map, bind}
+use mathlib.Core.Option.{none, some, bind}
 use Prim.Native.Nat.{ℕ, _+_, _-_, _≤_, _<_}
 use native.Mathlib.Decide.{decLe}
 use native.Mathlib.Numerals.{add-one}
 use native.Mathlib.Omega.{arith}
-use lib.Dec.{eqb}
-use lib.IntN.{ℤ}
 use lib.ListN.{length, getD, drop, replicate, length-drop, drop-of-length-le}
 use lib.Seq.{drop-cons}
 use borrow.Author.Tests.{le-leb, lt-leb, ne-eqb}
 use Rattle.paper.specs.declared.Entry.{Entry}
-use Rattle.paper.specs.File.{Field, fieldValue, layoutOf, theFields, entryOf, takeFields, takeEntry}
-use Rattle.paper.specs.Record.{asSheet}
+use Rattle.paper.specs.File.{Field, fieldValue, layoutOf, theFields, takeEntry}
 use Rattle.format.specs.Fields.{widths, total, numbersFrom, valuesBy, take-fields, numbers-length, widths-length}
 use Rattle.format.specs.Rows.{fieldsAt}
 use Rattle.layout.specs.Table.{padded, entryWith}
 use Rattle.entries.specs.declared.Walk.the-variants.{Got, Nothing}
 use Rattle.entries.specs.declared.Walk.{Walk}
-use Rattle.entries.specs.Walking.{wordsAt, fieldsWalk, walkOf, walkAt, sheetIn}
+use Rattle.entries.specs.Walking.{wordsAt, fieldsWalk, walkAt}
 
 -- only as many numbers count as there are fields
 values-front : (fs : List Field) (ns ms : List ℕ) → length ns ≡ length fs → valuesBy fs (ns ++ ms) ≡ valuesBy fs ns
@@ -91,30 +87,3 @@ module _ (k : ℕ) (s : List ℕ) (from n : ℕ) (e : n ≡ total (widths (field
   pub fields-got : n ≤ length s - from → (ns : List ℕ) (x : Entry) → ns ≡ wordsAt k (drop from s) → x ≡ entryWith k ns → Got x (from + n) ≡ fieldsWalk k s from
   unfolding fieldsWalk
   fields-got h ns x w f = rw (← e, le-leb n (length s - from) h, f, w)
-
--- ---- what stands there is no sheet
-
-not-sheet : (k : ℕ) (vs : List ℤ) → (k ≡ 2 → ⊥) → asSheet (entryOf k vs) ≡ none
-unfolding entryOf
-not-sheet k vs h = by (eqb k 1)
-  where
-    by : (t : Bool) → asSheet (cond t (entryOf 1 vs) (cond (eqb k 2) (entryOf 2 vs) (entryOf 3 vs))) ≡ none
-    by true = refl
-    by false = rw (ne-eqb k 2 h)
-
-no-sheet-of : (n k : ℕ) (o : Option (List ℤ × List ℕ)) → (k ≡ 2 → ⊥) → sheetIn (walkOf n (Option·map (λ (z : List ℤ × List ℕ). (entryOf k (z .0), z .1)) o)) ≡ none
-no-sheet-of n k none h = refl
-no-sheet-of n k (some z) h = not-sheet k (z .0) h
-
-no-sheet-by : (n k : ℕ) (o : Option (List Field)) (xs : List ℕ) → (k ≡ 2 → ⊥) → sheetIn (walkOf n (bind o (λ (fs : List Field). Option·map (λ (z : List ℤ × List ℕ). (entryOf k (z .0), z .1)) (takeFields fs xs)))) ≡ none
-unfolding bind
-no-sheet-by n k none xs h = refl
-no-sheet-by n k (some fs) xs h = no-sheet-of n k (takeFields fs xs) h
-
-pub no-sheet-here : (s : List ℕ) (at : ℕ) → at < length s → (getD s at 0 ≡ 2 → ⊥) → sheetIn (walkAt s at) ≡ none
-unfolding walkAt takeEntry
-no-sheet-here s at h k = rw (here s at h) (no-sheet-by (length s) (getD s at 0) (layoutOf (getD s at 0)) (drop (at + 1) s) k)
-
-pub sheet-here : (s : List ℕ) (at : ℕ) (x : Walk) → at < length s → getD s at 0 ≡ 2 → x ≡ fieldsWalk 2 s (at + 1) → x ≡ walkAt s at
-unfolding layoutOf
-sheet-here s at x h e w = kind-got s at 2 x h e refl w

@@ -86,7 +86,7 @@ fn weighing_at(s: &[u8], at: usize) -> [u32; FIELDS]
 }
 
 // The words of a sheet: FWD, AFT, DRY, WET, NLP; front arm, least, greatest, step; rear and water arm, greatest, step.
-pub fn sheet_at(s: &[u8], at: usize) -> [u32; FIELDS]
+fn sheet_at(s: &[u8], at: usize) -> [u32; FIELDS]
     requires { ⌜ at + 60 ≤ length (now s) ⌝ }
     ensures { λ r. ⌜ r ≡ wordsAt 2 (drop at (now (s .entry))) ⌝ }
 {
