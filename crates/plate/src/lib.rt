@@ -8,9 +8,17 @@ ghost use Rattle.paper.specs.Record.{sheetOf};
 ghost use Rattle.paper.specs.Answers.{placardAnswer};
 ghost use Rattle.sheet.specs.InForce.{found};
 ghost use Rattle.record.specs.Held.{slotted, heldBy};
+ghost use Rattle.plate.specs.Longest.{IsLongest};
 
 // The longest placard: 256 lines.
 pub const LONGEST: usize = 9216;
+
+// How long a buffer has to be that holds the placard of every sheet that is accepted.
+pub fn longest() -> usize
+    ensures { λ n. ⌜ IsLongest n ⌝ }
+{
+    LONGEST
+}
 
 // The last sheet in a record's slots.
 fn in_force(r: Record) -> InForce

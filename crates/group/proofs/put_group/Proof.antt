@@ -89,7 +89,7 @@ loop-again c =
     let whole = put (plain (a .b)) (l .limits .ensures .0) .1 in (
       omega arith,
       omega (arith, p .put-row .ensures .0),
-      ap length whole ∙ length-written (m .loop .out) _ _ (omega (arith, length-line (a .j * a .s .rear .step) (k * a .s .water .step) (row (a .s) (plain (a .b)) (a .j * a .s .rear .step) (k * a .s .water .step)), room b, b .pre .4, m .loop .inv .2)) ∙ m .loop .inv .2,
+      ap length whole ∙ length-written (m .loop .out) _ _ (rw length-line (omega (arith, room b, b .pre .4, m .loop .inv .2))) ∙ m .loop .inv .2,
       λ w same.
           group-more (a .s) w (a .j * a .waters) k (m .loop .none) (p .put-row .result) (a .out .now) (m .loop .out) _ (m .loop .inv .3 w same)
           (omega (arith, room b, b .pre .4))

@@ -1,0 +1,2 @@
+-- How long a placard can be.
+pub mod Longest

@@ -1,0 +1,11 @@
+-- The longest placard, by the sheets that are accepted.
+use mathlib.Core.Path.{_≡_}
+use Prim.Native.Nat.{ℕ, _≤_}
+use Rattle.paper.specs.declared.Sheet.{Sheet}
+use Rattle.paper.specs.Placard.{textLength}
+use Rattle.paper.specs.Refusals.{firstNumber, sheetFaults}
+
+-- n bytes hold the placard of every accepted sheet, and one of them needs them all
+pub record IsLongest (n : ℕ) : Type 0 where
+  pub holds : (s : Sheet) → firstNumber (sheetFaults s) ≡ 0 → textLength s ≤ n
+  pub needed : (s : Sheet) × (firstNumber (sheetFaults s) ≡ 0) × (textLength s ≡ n)
