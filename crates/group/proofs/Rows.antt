@@ -10,8 +10,8 @@ use Rattle.laws.specs.Division.{multiple-most}
 use Rattle.paper.specs.declared.Sheet.{Sheet}
 use Rattle.paper.specs.declared.Row.{Row}
 use Rattle.paper.specs.Record.{Balance}
-use Rattle.paper.specs.Rows.{row, isBlank, below, loadsOf, rowCount, joined, loads}
-use Rattle.paper.specs.Placard.{line, text, textLength, blankOf, blankCount}
+use Rattle.paper.specs.Rows.{isBlank, below, loadsOf, rowCount, joined, loads}
+use Rattle.paper.specs.Placard.{text, textLength, blankOf, blankCount}
 use Rattle.group.specs.Numbered.{waters, rearAt, waterAt, rowAt, lineAt, blanks}
 use Rattle.line.proofs.Length.{length-line}
 use Rattle.paper.proofs.Lists.{map-below-more, joined-more, length-joined, joined-at, joined-by-index}
@@ -31,13 +31,6 @@ rear-most s i h =
 
 pub water-most : (s : Sheet) (i : ℕ) → waterAt s i ≤ s .water .most
 water-most s i = multiple-most (s .water .most) (s .water .step) (i % waters s) (mod-lt i (omega arith))
-
--- the row and the line of the i-th loads
-pub row-of : (s : Sheet) (b : Balance) (i rear water : ℕ) (x : Row) → rear ≡ rearAt s i → water ≡ waterAt s i → x ≡ row s b rear water → x ≡ rowAt s b i
-row-of s b i rear water x e f h = rw (e, f) at h
-
-pub line-of : (s : Sheet) (b : Balance) (i rear water : ℕ) (x : Row) → rear ≡ rearAt s i → water ≡ waterAt s i → x ≡ rowAt s b i → line rear water x ≡ lineAt s b i
-line-of s b i rear water x e f h = rw (e, f, h)
 
 -- ---- the text
 

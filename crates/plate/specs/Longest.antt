@@ -5,7 +5,7 @@ use Rattle.paper.specs.declared.Sheet.{Sheet}
 use Rattle.paper.specs.Placard.{textLength}
 use Rattle.paper.specs.Refusals.{firstNumber, sheetFaults}
 
--- n bytes hold the placard of every accepted sheet, and one of them needs them all
+-- n bytes hold the placard of each accepted sheet, and one of them fills them
 pub record IsLongest (n : ℕ) : Type 0 where
-  pub holds : (s : Sheet) → firstNumber (sheetFaults s) ≡ 0 → textLength s ≤ n
-  pub needed : (s : Sheet) × (firstNumber (sheetFaults s) ≡ 0) × (textLength s ≡ n)
+  pub most : (s : Sheet) → firstNumber (sheetFaults s) ≡ 0 → textLength s ≤ n
+  pub reached : (s : Sheet) × (firstNumber (sheetFaults s) ≡ 0) × (textLength s ≡ n)

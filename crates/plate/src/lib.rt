@@ -13,7 +13,7 @@ ghost use Rattle.plate.specs.Longest.{IsLongest};
 // The longest placard: 256 lines.
 pub const LONGEST: usize = 9216;
 
-// How long a buffer has to be that holds the placard of every sheet that is accepted.
+// The longest placard's length, as a promise.
 pub fn longest() -> usize
     ensures { λ n. ⌜ IsLongest n ⌝ }
 {

@@ -7,7 +7,7 @@ use native.Mathlib.Omega.{arith}
 use lib.ListN.{length}
 use Rattle.laws.specs.Written.{written, length-written}
 use Rattle.paper.specs.Record.{Balance}
-use Rattle.paper.specs.Rows.{keepsAt, row, rowCount}
+use Rattle.paper.specs.Rows.{keepsAt, rowCount}
 use Rattle.sheet.proofs.Accepted.{accepted-sheet}
 use Rattle.balance.specs.Balance.{plain}
 use Rattle.planes.specs.Plane.{allHold}

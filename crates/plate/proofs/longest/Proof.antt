@@ -10,7 +10,7 @@ use Rattle.plate.proofs.longest.Tie as tie
 returns : tie.Need-returns
 unfolding textLength
 returns c =
-    record { holds = λ s a. omega (arith, accepted-sheet s a .steps .rows); needed = (largest, largest-accepted, largest-length) }
+    record { most = λ s a. omega (arith, accepted-sheet s a .steps .rows); reached = (largest, largest-accepted, largest-length) }
 
 pub longest-spec : {M : Type 1} → statement M
 longest-spec = tie.close (tie.spec returns)
