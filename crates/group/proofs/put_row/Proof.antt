@@ -1,7 +1,7 @@
 -- `group::put_row` meets its contract: the row is the one of the limits, and its line goes into the part of the buffer behind
 -- the lines before it. Assumes nothing.
 use borrow.Author.Needs.{needs}
-use mathlib.Core.Path.{ap, _∙_}
+use mathlib.Core.Path.{_≡_, ap, _∙_}
 use Prim.Native.Nat.{_-_, _*_}
 use lib.ListN.{length, take, drop}
 use Rattle.paper.specs.Placard.{line}
@@ -34,6 +34,10 @@ blank-requires c κs = search needs
 same-length : tie.Need-same-length
 same-length c = search needs
 
+-- what was put is the line of the loads and of the row that was made, in the part of the buffer from the i-th line on
+printed : (c : tie.After-put-line) → c .put-line .last .0 ≡ written (take (length (c .before .before .before .before .args .out .now) - 36 * c .before .before .before .before .args .i) (drop (36 * c .before .before .before .before .args .i) (c .before .before .before .before .args .out .now))) 0 (line (c .before .before .before .before .args .rear) (c .before .before .before .before .args .water) (c .before .before .row .result))
+printed c = c .put-line .ensures
+
 returns : tie.Need-returns
 returns c =
     let p = c .before .before .before in
@@ -41,10 +45,8 @@ returns c =
     let a = r .before .before .args in (
       c .blank .ensures .1,
       λ b same.
-          let x = r .row .ensures b (a .rear) same in (
-            c .blank .ensures .0 ∙ ap blanks x,
-            written-part (a .out .now) (p .put-line .last .0) _ (36 * a .i) (p .put-line .ensures ∙ ap (λ y. written (take (length (a .out .now) - 36 * a .i) (drop (36 * a .i) (a .out .now))) 0 (line (a .rear) (a .water) y)) x),
-          ),
+          let x = r .row .ensures b (a .rear) same in
+          (c .blank .ensures .0 ∙ ap blanks x, written-part (a .out .now) (p .put-line .last .0) _ (36 * a .i) (rw x at (printed p))),
     )
 
 pub put-row-spec : {M : Type 1} → statement M
