@@ -108,11 +108,11 @@ comment-passed i es c rest =
     ∙ passed-line i es (said c) (split feed rest) (signed c)
 
 -- what follows an entry's line changes nothing
-remark-passed : (es : List Entry) (f : Entry) (rest : List ℕ) (o : Outcome) → ((j : ℕ) → afterLines j (stands es) (split feed rest) ≡ o) → (i : ℕ) → afterLines i (stands es) (split feed (remark es f ++ rest)) ≡ o
+remark-passed : (es : List Entry) (c : CentreOfGravity) (f : Entry) (rest : List ℕ) (o : Outcome) → ((j : ℕ) → afterLines j (stands es) (split feed rest) ≡ o) → (i : ℕ) → afterLines i (stands es) (split feed (remark c f ++ rest)) ≡ o
 unfolding remark
-remark-passed es (entry.Weighing w) rest o h i = comment-passed i es (centreAnswer es) rest ∙ h (suc i)
-remark-passed es (entry.Sheet s) rest o h i = h i
-remark-passed es (entry.Change x) rest o h i = comment-passed i es (centreAnswer es) rest ∙ h (suc i)
+remark-passed es c (entry.Weighing w) rest o h i = comment-passed i es c rest ∙ h (suc i)
+remark-passed es c (entry.Sheet s) rest o h i = h i
+remark-passed es c (entry.Change x) rest o h i = comment-passed i es c rest ∙ h (suc i)
 
 -- ---- a listing
 
@@ -121,13 +121,14 @@ unfolding acceptedAfter listedAfter linesOf split
 listed-after es [] h i = last-line i es ∙ ap stands (sym (append-nil es))
 listed-after es (f ∷ fs) h i =
     let gs = es ++ f ∷ [] in
+    let c = centreAnswer gs in
     let rest = listedAfter gs fs in
     let n = eqb-true (entryNumber es f) 0 (left (eqb (entryNumber es f) 0) (acceptedAfter gs fs) h) in
     let more = listed-after gs fs (right (eqb (entryNumber es f) 0) (acceptedAfter gs fs) h) in
-    ap (λ (l : List ℕ). afterLines i (stands es) (split feed l)) (append-assoc (entryText f) (feed ∷ remark gs f) rest)
-    ∙ ap (afterLines i (stands es)) (split-part feed (entryText f) (remark gs f ++ rest) (text-above f))
-    ∙ entry-line i es f (entryText f) (split feed (remark gs f ++ rest)) (says-text f (entry-readable es f n)) n
-    ∙ remark-passed gs f rest (stands (gs ++ fs)) more (suc i)
+    ap (λ (l : List ℕ). afterLines i (stands es) (split feed l)) (append-assoc (entryText f) (feed ∷ remark c f) rest)
+    ∙ ap (afterLines i (stands es)) (split-part feed (entryText f) (remark c f ++ rest) (text-above f))
+    ∙ entry-line i es f (entryText f) (split feed (remark c f ++ rest)) (says-text f (entry-readable es f n)) n
+    ∙ remark-passed gs c f rest (stands (gs ++ fs)) more (suc i)
     ∙ ap stands (append-assoc es (f ∷ []) fs)
 
 -- The listing of a list that accepted calls give is a logbook that comes to that list.

@@ -39,18 +39,18 @@ comment-most c =
 
 -- ---- the lines of an entry
 
-pub length-lines : (es : List Entry) (e : Entry) → length (linesOf es e) ≡ length (entryText e) + 1 + length (remark es e)
+pub length-lines : (c : CentreOfGravity) (e : Entry) → length (linesOf c e) ≡ length (entryText e) + 1 + length (remark c e)
 unfolding linesOf
-length-lines es e = omega (arith, length-append (entryText e) (feed ∷ remark es e))
+length-lines c e = omega (arith, length-append (entryText e) (feed ∷ remark c e))
 
-remark-most : (es : List Entry) (e : Entry) → length (remark es e) ≤ 87
+remark-most : (c : CentreOfGravity) (e : Entry) → length (remark c e) ≤ 87
 unfolding remark
-remark-most es (entry.Weighing w) = comment-most (centreAnswer es)
-remark-most es (entry.Sheet s) = omega arith
-remark-most es (entry.Change x) = comment-most (centreAnswer es)
+remark-most c (entry.Weighing w) = comment-most c
+remark-most c (entry.Sheet s) = omega arith
+remark-most c (entry.Change x) = comment-most c
 
-pub lines-most : (es : List Entry) (e : Entry) → length (linesOf es e) ≤ 426
-lines-most es e = omega (arith, length-lines es e, text-most e, remark-most es e)
+pub lines-most : (c : CentreOfGravity) (e : Entry) → length (linesOf c e) ≤ 426
+lines-most c e = omega (arith, length-lines c e, text-most e, remark-most c e)
 
 -- ---- all
 
@@ -59,8 +59,8 @@ unfolding listedAfter
 listed-most es [] = omega arith
 listed-most es (f ∷ fs) =
     let gs = es ++ f ∷ [] in
-    omega (arith, length-append (linesOf gs f) (listedAfter gs fs), lines-most gs f, listed-most gs fs)
+    omega (arith, length-append (linesOf (centreAnswer gs) f) (listedAfter gs fs), lines-most (centreAnswer gs) f, listed-most gs fs)
 
-pub listing-most : (es : List Entry) → length es ≤ 64 → length (listing es) ≤ 27264
+pub listing-most : (es : List Entry) → length (listing es) ≤ 426 * length es
 unfolding listing
-listing-most es h = omega (arith, listed-most [] es)
+listing-most es = listed-most [] es

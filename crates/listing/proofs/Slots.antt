@@ -1,99 +1,59 @@
--- The entries in a record's first slots, where calls gave all of them: one more is readable and finds room, and its lines are
--- those behind the others. Assumes nothing.
-use mathlib.Core.Path.{_≡_, refl, sym, ap, _∙_}
-use mathlib.Core.Bool.{true}
-use mathlib.Core.List.{List, [], _∷_, _++_, map}
-use Prim.Native.Nat.{ℕ, zero, suc, _+_, _≤_, _<_}
+-- The entries in a record's slots in turn: one that is refused is passed over; one that is accepted is readable, and its lines
+-- find room behind those of the others. Assumes nothing.
+use mathlib.Core.Path.{_≡_, sym, ap, _∙_}
+use mathlib.Core.List.{List, [], _∷_, _++_}
+use Prim.Native.Nat.{ℕ, _+_, _≤_, _<_}
 use native.Mathlib.Omega.{arith}
-use lib.Dec.{eqb}
-use lib.ListN.{length, getD, take, length-append}
-use borrow.Author.Tests.{eqb-true}
-use Rattle.laws.specs.Tests.{left, right}
-use Rattle.laws.specs.Lists.{map-take-more}
+use lib.ListN.{length, getD}
 use Rattle.paper.specs.declared.Entry.{Entry}
-use Rattle.paper.specs.Refusals.{entryNumber, acceptedAfter, accepted}
+use Rattle.paper.specs.declared.CentreOfGravity.{CentreOfGravity}
+use Rattle.paper.specs.Record.{balanceOf}
+use Rattle.paper.specs.Refusals.{entryNumber}
+use Rattle.paper.specs.Answers.{centreAnswer}
+use Rattle.judge.specs.declared.Standing.{Standing}
+use Rattle.judge.specs.Standing.{plainly, Sound, numberAt, after}
+use Rattle.judge.proofs.Accepted.{room-for}
 use Rattle.record.specs.declared.Slot.{Slot}
-use Rattle.record.specs.declared.Record.{Record}
-use Rattle.record.specs.Held.{entryIn, recordOf, heldBy, put}
-use Rattle.judge.proofs.Accepted.{room-for, accepted-append, accepted-before}
-use Rattle.record.proofs.Lists.{put-is, held-record}
+use Rattle.record.specs.Held.{entryIn}
+use Rattle.record.proofs.Turns.{kept-added, kept-same}
+use Rattle.record.proofs.Replays.{StandsAt, number-here, one-stands, heldTo, held-more}
 use Rattle.values.specs.Places.{Readable}
 use Rattle.listing.specs.Listings.{linesOf, listing}
 use Rattle.listing.proofs.Readables.{entry-readable}
-use Rattle.listing.proofs.Turns.{listing-more, listing-part}
+use Rattle.listing.proofs.Sizes.{lines-most, listing-most}
+use Rattle.listing.proofs.Turns.{listing-more}
 
--- the last entry of a list that calls give got no number
-last-number : (fs : List Entry) (f : Entry) → accepted (fs ++ f ∷ []) ≡ true → entryNumber fs f ≡ 0
-unfolding accepted acceptedAfter
-last-number fs f h =
-    let k = right (acceptedAfter [] fs) (acceptedAfter fs (f ∷ [])) (sym (accepted-append [] fs (f ∷ [])) ∙ h) in
-    eqb-true (entryNumber fs f) 0 (left (eqb (entryNumber fs f) 0) (acceptedAfter (fs ++ f ∷ []) []) k)
+module _ (slots : List Slot) (i n : ℕ) (d : Slot) (s : Standing) (h : i < length slots) (at : StandsAt (heldTo slots i) n s) where
+  abbrev es : List Entry
+  es = heldTo slots i
 
--- the entries of the first i slots
-abbrev pub entriesTo : List Slot → ℕ → List Entry
-entriesTo slots i = map entryIn (take i slots)
+  abbrev e : Entry
+  e = entryIn (getD slots i d)
 
--- the first c are the first i and others
-parts : (slots : List Slot) (i c : ℕ) → i ≤ c → (gs : List Entry) × (entriesTo slots c ≡ entriesTo slots i ++ gs)
-parts slots zero c h = (entriesTo slots c, refl)
-parts slots (suc i) zero h = absurd (omega arith)
-parts [] (suc i) (suc c) h = ([], refl)
-parts (s ∷ slots) (suc i) (suc c) h =
-    let r = parts slots i c (omega arith) in
-    (r .0, ap (λ (l : List Entry). entryIn s ∷ l) (r .1))
+  pub passed : 0 < numberAt n (plainly s) e → heldTo slots (i + 1) ≡ es
+  passed k = held-more slots i d h ∙ kept-same es e (rw (number-here es n s at e) at k)
 
-pub listed-part : (slots : List Slot) (i c : ℕ) → i ≤ c → length (listing (entriesTo slots i)) ≤ length (listing (entriesTo slots c))
-listed-part slots i c h =
-    let r = parts slots i c h in
-    rw (r .1) (listing-part (entriesTo slots i) (r .0))
+  -- an entry that gets no number
+  module _ (z : numberAt n (plainly s) e ≡ 0) where
+    none : entryNumber es e ≡ 0
+    none = sym (number-here es n s at e) ∙ z
 
--- one more
-module _ (slots : List Slot) (i c : ℕ) (d : Slot) (h : i < c) (k : c ≤ length slots) (a : accepted (entriesTo slots c) ≡ true) where
-  abbrev fs : List Entry
-  fs = entriesTo slots i
+    more : heldTo slots (i + 1) ≡ es ++ e ∷ []
+    more = held-more slots i d h ∙ kept-added es e none
 
-  abbrev f : Entry
-  f = entryIn (getD slots i d)
+    pub readable : Readable e
+    readable = entry-readable es e none
 
-  more : entriesTo slots (i + 1) ≡ fs ++ f ∷ []
-  more = map-take-more entryIn slots i d (omega arith)
+    pub lines-within : (c : CentreOfGravity) → length (listing es) + length (linesOf c e) ≤ 27264
+    lines-within c = omega (arith, lines-most c e, listing-most es, room-for es e none)
 
-  fine : accepted (fs ++ f ∷ []) ≡ true
-  fine =
-      let r = parts slots (i + 1) c (omega arith) in
-      sym (ap accepted more) ∙ accepted-before (entriesTo slots (i + 1)) (r .0) (sym (ap accepted (r .1)) ∙ a)
+    pub lines-more : (c : CentreOfGravity) → c ≡ centreAnswer (es ++ e ∷ []) → listing es ++ linesOf c e ≡ listing (heldTo slots (i + 1))
+    lines-more c a = ap (λ (x : CentreOfGravity). listing es ++ linesOf x e) a ∙ sym (listing-more es e) ∙ ap listing (sym more)
 
-  number : entryNumber fs f ≡ 0
-  number = last-number fs f fine
+    -- and what stands then
+    module _ (t : Standing) (p : plainly t ≡ after (plainly s) e) (q : Sound (n + 1) t) where
+      pub balance-is : plainly t ≡ balanceOf (es ++ e ∷ [])
+      balance-is = one-stands es n s at e t p q .stands
 
-  pub readable : Readable f
-  readable = entry-readable fs f number
-
-  -- a record of the first i
-  module _ (log : Record) (e : log ≡ recordOf fs) where
-    pub room : log .count < 64
-    unfolding recordOf
-    room = rw e (room-for fs f number)
-
-    -- and it with one entry more
-    module _ (next : Record) (n : next ≡ put log f) where
-      next-is : next ≡ recordOf (fs ++ f ∷ [])
-      next-is = n ∙ ap (λ (l : Record). put l f) e ∙ put-is fs f (room-for fs f number)
-
-      pub next-log : next ≡ recordOf (entriesTo slots (i + 1))
-      next-log = next-is ∙ ap recordOf (sym more)
-
-      pub lines-more : listing fs ++ linesOf (heldBy next) f ≡ listing (entriesTo slots (i + 1))
-      lines-more =
-          ap (λ (es : List Entry). listing fs ++ linesOf es f) (ap heldBy next-is ∙ held-record (fs ++ f ∷ []) fine)
-          ∙ sym (listing-more fs f)
-          ∙ ap listing (sym more)
-
-      pub lines-within : length (listing fs) + length (linesOf (heldBy next) f) ≤ length (listing (entriesTo slots c))
-      lines-within =
-          omega (
-            arith,
-            length-append (listing fs) (linesOf (heldBy next) f),
-            ap length lines-more,
-            listed-part slots (i + 1) c (omega arith),
-          )
+      pub stands-more : StandsAt (heldTo slots (i + 1)) (n + 1) t
+      stands-more = rw more (one-stands es n s at e t p q)

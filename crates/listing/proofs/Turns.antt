@@ -1,10 +1,9 @@
--- The listing of a list with one entry more, by recursion on the list, and of a list's first entries. Assumes nothing.
+-- The listing of a list with one entry more, by recursion on the list, and the parts of an entry's lines. Assumes nothing.
 use mathlib.Core.Path.{_≡_, refl, sym, ap, _∙_}
 use mathlib.Core.Logic.{inl, inr}
 use mathlib.Core.List.{List, [], _∷_, _++_, append-assoc, append-nil}
-use Prim.Native.Nat.{ℕ, _≤_}
+use Prim.Native.Nat.{ℕ}
 use native.Mathlib.Omega.{arith}
-use lib.ListN.{length, length-append}
 use denote.Enum.Declared.{tagOf}
 use types.Run.{OneOf}
 use Rattle.paper.specs.declared.Entry.{Entry}
@@ -23,35 +22,30 @@ listed-append : (es fs gs : List Entry) → listedAfter es (fs ++ gs) ≡ listed
 unfolding listedAfter
 listed-append es [] gs = rw (append-nil es)
 listed-append es (f ∷ fs) gs =
-    let ls = linesOf (es ++ f ∷ []) f in
+    let ls = linesOf (centreAnswer (es ++ f ∷ [])) f in
     rw (listed-append (es ++ f ∷ []) fs gs, append-assoc es (f ∷ []) fs, append-assoc ls (listedAfter (es ++ f ∷ []) fs) (listedAfter (es ++ f ∷ fs) gs))
 
-pub listing-more : (fs : List Entry) (f : Entry) → listing (fs ++ f ∷ []) ≡ listing fs ++ linesOf (fs ++ f ∷ []) f
+pub listing-more : (fs : List Entry) (f : Entry) → listing (fs ++ f ∷ []) ≡ listing fs ++ linesOf (centreAnswer (fs ++ f ∷ [])) f
 unfolding listing listedAfter
-listing-more fs f = listed-append [] fs (f ∷ []) ∙ ap (λ (l : List ℕ). listedAfter [] fs ++ l) (append-nil (linesOf (fs ++ f ∷ []) f))
-
--- the listing of a list's first entries is no longer than that of the whole
-pub listing-part : (fs gs : List Entry) → length (listing fs) ≤ length (listing (fs ++ gs))
-unfolding listing
-listing-part fs gs = omega (arith, ap length (listed-append [] fs gs), length-append (listedAfter [] fs) (listedAfter fs gs))
+listing-more fs f = listed-append [] fs (f ∷ []) ∙ ap (λ (l : List ℕ). listedAfter [] fs ++ l) (append-nil (linesOf (centreAnswer (fs ++ f ∷ [])) f))
 
 -- an entry that is no sheet has a comment
-pub commented : (es : List Entry) (e : Entry) → OneOf (0 ∷ 2 ∷ []) (tagOf the-type e) → remark es e ≡ comment (centreAnswer es)
+pub commented : (c : CentreOfGravity) (e : Entry) → OneOf (0 ∷ 2 ∷ []) (tagOf the-type e) → remark c e ≡ comment c
 unfolding remark
-commented es (entry.Weighing w) h = refl
-commented es (entry.Sheet s) (inl h) = absurd (omega arith)
-commented es (entry.Sheet s) (inr h) = absurd (omega arith)
-commented es (entry.Change x) h = refl
+commented c (entry.Weighing w) h = refl
+commented c (entry.Sheet s) (inl h) = absurd (omega arith)
+commented c (entry.Sheet s) (inr h) = absurd (omega arith)
+commented c (entry.Change x) h = refl
 
 -- a sheet has none
-pub uncommented : (es : List Entry) (e : Entry) (s : Sheet) → e ≡ entry.Sheet s → remark es e ≡ []
+pub uncommented : (c : CentreOfGravity) (e : Entry) (s : Sheet) → e ≡ entry.Sheet s → remark c e ≡ []
 unfolding remark
-uncommented es e s h = rw h
+uncommented c e s h = rw h
 
 -- the lines of an entry, its text and the line feed apart
-pub lines-parts : (es : List Entry) (e : Entry) → entryText e ++ feed ∷ [] ++ remark es e ≡ linesOf es e
+pub lines-parts : (c : CentreOfGravity) (e : Entry) → entryText e ++ feed ∷ [] ++ remark c e ≡ linesOf c e
 unfolding linesOf
-lines-parts es e = append-assoc (entryText e) (feed ∷ []) (remark es e)
+lines-parts c e = append-assoc (entryText e) (feed ∷ []) (remark c e)
 
 -- the labelled numbers of a comment
 pub comment-parts : (c : CentreOfGravity) → totalText ++ decimal (c .total) ++ (momentText ++ numeral (c .moment)) ++ (centreText ++ numeral (c .centre)) ++ feed ∷ [] ≡ comment c

@@ -28,20 +28,20 @@ centreText = 32 ∷ 99 ∷ 101 ∷ 110 ∷ 116 ∷ 114 ∷ 101 ∷ 32 ∷ []
 unfoldable pub comment : CentreOfGravity → List ℕ
 comment c = totalText ++ decimal (c .total) ++ momentText ++ numeral (c .moment) ++ centreText ++ numeral (c .centre) ++ feed ∷ []
 
--- what follows an entry's line, of a list that ends with the entry
-unfoldable pub remark : List Entry → Entry → List ℕ
-remark es (entry.Weighing w) = comment (centreAnswer es)
-remark es (entry.Sheet s) = []
-remark es (entry.Change x) = comment (centreAnswer es)
+-- what follows an entry's line, where a list that ends with the entry comes to c
+unfoldable pub remark : CentreOfGravity → Entry → List ℕ
+remark c (entry.Weighing w) = comment c
+remark c (entry.Sheet s) = []
+remark c (entry.Change x) = comment c
 
--- the lines of an entry, of a list that ends with it
-unfoldable pub linesOf : List Entry → Entry → List ℕ
-linesOf es e = entryText e ++ feed ∷ remark es e
+-- the lines of such an entry
+unfoldable pub linesOf : CentreOfGravity → Entry → List ℕ
+linesOf c e = entryText e ++ feed ∷ remark c e
 
 -- the lines of entries behind a list
 unfoldable pub listedAfter : List Entry → List Entry → List ℕ
 listedAfter es [] = []
-listedAfter es (f ∷ fs) = linesOf (es ++ f ∷ []) f ++ listedAfter (es ++ f ∷ []) fs
+listedAfter es (f ∷ fs) = linesOf (centreAnswer (es ++ f ∷ [])) f ++ listedAfter (es ++ f ∷ []) fs
 
 unfoldable pub listing : List Entry → List ℕ
 listing es = listedAfter [] es

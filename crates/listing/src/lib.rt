@@ -1,4 +1,7 @@
 // The listing of a record: its entries as lines of a logbook, with what each weighing and change comes to as a comment.
+use judge::Judged;
+use judge::Standing;
+use paper::CAPACITY;
 use paper::CentreOfGravity;
 use paper::Entry;
 use paper::Written;
@@ -6,14 +9,12 @@ use record::Record;
 use wording::put_bytes;
 ghost use mathlib.Core.Path.{_≡_};
 ghost use Prim.Native.Nat.{_+_, _≤_};
-ghost use mathlib.Core.Bool.{true};
 ghost use mathlib.Core.List.{_++_};
 ghost use lib.ListN.{length};
 ghost use Rattle.laws.specs.Written.{written};
-ghost use Rattle.paper.specs.Refusals.{accepted};
 ghost use Rattle.numerals.specs.Numerals.{numeral};
 ghost use Rattle.values.specs.Places.{Readable};
-ghost use Rattle.record.specs.Held.{slotted, heldBy};
+ghost use Rattle.record.specs.Held.{heldBy};
 ghost use Rattle.listing.specs.Listings.{comment, remark, linesOf, listing, listedAnswer};
 
 // Room for every listing: 64 entries, each with its comment of at most 426 bytes.
@@ -41,41 +42,50 @@ fn put_comment(out: &mut [u8], at: usize, c: CentreOfGravity) -> usize
     end + 1
 }
 
-// What follows the line of a record's last entry. The answer is the place behind it.
-fn put_remark(out: &mut [u8], at: usize, log: Record, e: Entry) -> usize
-    requires { ⌜ at + length (remark (heldBy log) e) ≤ length (now out) ⌝ }
-    ensures { λ r. ⌜ (r ≡ at + length (remark (heldBy log) e)) × (now (out .exit) ≡ written (now (out .entry)) at (remark (heldBy log) e)) ⌝ }
+// What follows the line of an entry, where the record up to it comes to `c`. The answer is the place behind it.
+fn put_remark(out: &mut [u8], at: usize, c: CentreOfGravity, e: Entry) -> usize
+    requires { ⌜ at + length (remark c e) ≤ length (now out) ⌝ }
+    ensures { λ r. ⌜ (r ≡ at + length (remark c e)) × (now (out .exit) ≡ written (now (out .entry)) at (remark c e)) ⌝ }
 {
     match e {
         Entry::Sheet(_) => at,
-        _ => put_comment(out, at, log.centre_of_gravity()),
+        _ => put_comment(out, at, c),
     }
 }
 
-// The lines of a record's last entry. The answer is the place behind them.
-fn put_lines(out: &mut [u8], at: usize, log: Record, e: Entry) -> usize
-    requires { ⌜ Readable e × (at + length (linesOf (heldBy log) e) ≤ length (now out)) ⌝ }
-    ensures { λ r. ⌜ (r ≡ at + length (linesOf (heldBy log) e)) × (now (out .exit) ≡ written (now (out .entry)) at (linesOf (heldBy log) e)) ⌝ }
+// The lines of such an entry. The answer is the place behind them.
+fn put_lines(out: &mut [u8], at: usize, c: CentreOfGravity, e: Entry) -> usize
+    requires { ⌜ Readable e × (at + length (linesOf c e) ≤ length (now out)) ⌝ }
+    ensures { λ r. ⌜ (r ≡ at + length (linesOf c e)) × (now (out .exit) ≡ written (now (out .entry)) at (linesOf c e)) ⌝ }
 {
     let end = wording::put_entry(out, at, e);
     out[end] = b'\n';
-    put_remark(out, end + 1, log, e)
+    put_remark(out, end + 1, c, e)
 }
 
-// The lines of all entries of a record that calls gave. The answer is how many bytes they take.
+// The lines of the entries that a record holds. The answer is how many bytes they take.
 fn put_listing(out: &mut [u8], r: Record) -> usize
-    requires { ⌜ (accepted (slotted r) ≡ true) × (r .count ≤ 64) × (length (listing (slotted r)) ≤ length (now out)) ⌝ }
-    ensures { λ n. ⌜ (n ≡ length (listing (slotted r))) × (now (out .exit) ≡ written (now (out .entry)) 0 (listing (slotted r))) ⌝ }
+    requires { ⌜ 27264 ≤ length (now out) ⌝ }
+    ensures { λ n. ⌜ (n ≡ length (listing (heldBy r))) × (now (out .exit) ≡ written (now (out .entry)) 0 (listing (heldBy r))) ⌝ }
 {
-    let mut log = Record::fresh();
+    let mut standing = Standing::Unweighed;
+    let mut n = 0;
     let mut at = 0;
     let mut i = 0;
-    while i < r.count {
+    while i < CAPACITY && i < r.count {
         let slot = r.slots[i];
         let e = slot.entry;
-        log = record::appended(log, e);
-        at = put_lines(out, at, log, e);
-        i += 1;
+        match judge::judge(n, standing, e) {
+            Judged::Refused(_) => {
+                i += 1;
+            }
+            Judged::Accepted(next) => {
+                at = put_lines(out, at, centre::answer(next), e);
+                standing = next;
+                n += 1;
+                i += 1;
+            }
+        }
     }
     at
 }
@@ -84,9 +94,8 @@ fn put_listing(out: &mut [u8], r: Record) -> usize
 pub fn show(r: Record, out: &mut [u8]) -> Written
     ensures { λ a. ⌜ (a ≡ listedAnswer (heldBy r) (now (out .entry)) .0) × (now (out .exit) ≡ listedAnswer (heldBy r) (now (out .entry)) .1) ⌝ }
 {
-    let now = record::replay(r);
     let mut text = [0u8; LONGEST];
-    let length = put_listing(&mut text, now.log);
+    let length = put_listing(&mut text, r);
     if out.len() < length {
         return Written {
             number: 11,

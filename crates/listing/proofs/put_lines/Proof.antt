@@ -6,8 +6,8 @@ use Prim.Native.Nat.{ℕ, _+_, _≤_}
 use native.Mathlib.Omega.{arith}
 use lib.ListN.{length, set, length-append, length-set}
 use Rattle.paper.specs.declared.Entry.{Entry}
+use Rattle.paper.specs.declared.CentreOfGravity.{CentreOfGravity}
 use Rattle.paper.specs.Placard.{feed}
-use Rattle.record.specs.Held.{heldBy}
 use Rattle.wording.specs.Texts.{entryText}
 use Rattle.listing.specs.Listings.{remark, linesOf}
 use Rattle.laws.specs.Puts.{Put, put-as, put-length, put-then, put-one}
@@ -19,7 +19,7 @@ use Rattle.listing.proofs.put_lines.Tie as tie
 put-entry-requires : tie.Need-put-entry-requires
 put-entry-requires c κs =
     let s = c .before .before in
-    (s .pre .0, omega (arith, length-lines (heldBy (s .args .log)) (s .args .e), s .pre .1))
+    (s .pre .0, omega (arith, length-lines (s .args .c) (s .args .e), s .pre .1))
 
 -- the text is put
 module _ (c : tie.After-put-entry) where
@@ -32,8 +32,8 @@ module _ (c : tie.After-put-entry) where
   abbrev from : ℕ
   from = start .args .at
 
-  abbrev es : List Entry
-  es = heldBy (start .args .log)
+  abbrev come-to : CentreOfGravity
+  come-to = start .args .c
 
   abbrev what : Entry
   what = start .args .e
@@ -41,8 +41,8 @@ module _ (c : tie.After-put-entry) where
   text : Put lent from (entryText what) (c .put-entry .result) (c .put-entry .last .0)
   text = c .put-entry .ensures
 
-  room : from + (length (entryText what) + 1 + length (remark es what)) ≤ length lent
-  room = omega (arith, length-lines es what, start .pre .1)
+  room : from + (length (entryText what) + 1 + length (remark come-to what)) ≤ length lent
+  room = omega (arith, length-lines come-to what, start .pre .1)
 
   kept : length (c .put-entry .last .0) ≡ length lent
   kept = put-length _ _ _ _ _ text (omega (arith, room))
@@ -68,18 +68,18 @@ module _ (c : tie.After-put-remark) where
   abbrev entered : tie.After-put-entry
   entered = c .before .before .before .before
 
-  rest : Put (set (entered .put-entry .last .0) (entered .put-entry .result) feed) (entered .put-entry .result + 1) (remark (es entered) (what entered)) (c .put-remark .result) (c .put-remark .last .0)
+  rest : Put (set (entered .put-entry .last .0) (entered .put-entry .result) feed) (entered .put-entry .result + 1) (remark (come-to entered) (what entered)) (c .put-remark .result) (c .put-remark .last .0)
   rest = c .put-remark .ensures
 
-  all : Put (lent entered) (from entered) (linesOf (es entered) (what entered)) (c .put-remark .result) (c .put-remark .last .0)
+  all : Put (lent entered) (from entered) (linesOf (come-to entered) (what entered)) (c .put-remark .result) (c .put-remark .last .0)
   all =
       let lines = put-then _ _ _ _ _ (line entered) _ _ _ (omega (arith, length-append (entryText (what entered)) (feed ∷ []), room entered)) rest in
-      put-as _ _ _ _ _ lines _ (lines-parts (es entered) (what entered))
+      put-as _ _ _ _ _ lines _ (lines-parts (come-to entered) (what entered))
 
 same-length : tie.Need-same-length
 same-length c =
     let q = c .before .before in
-    put-length _ _ _ _ _ (all q) (omega (arith, length-lines (es (entered q)) (what (entered q)), room (entered q)))
+    put-length _ _ _ _ _ (all q) (omega (arith, length-lines (come-to (entered q)) (what (entered q)), room (entered q)))
 
 returns : tie.Need-returns
 returns c = all (c .before .before)

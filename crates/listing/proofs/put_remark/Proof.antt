@@ -1,9 +1,8 @@
 -- `listing::put_remark` meets its contract, by the kind of the entry. Assumes nothing.
 use borrow.Author.Needs.{needs}
-use mathlib.Core.Path.{_≡_, sym, ap, _∙_}
+use mathlib.Core.Path.{_≡_, sym, ap}
 use native.Mathlib.Omega.{arith}
 use lib.ListN.{length}
-use Rattle.record.specs.Held.{heldBy}
 use Rattle.listing.specs.Listings.{comment, remark}
 use Rattle.laws.specs.Puts.{put-none, put-as}
 use Rattle.listing.proofs.Turns.{commented, uncommented}
@@ -13,23 +12,16 @@ use Rattle.listing.proofs.put_remark.Tie as tie
 enum-told : tie.Need-enum-told
 enum-told c = search needs
 
-centre-of-gravity-requires : tie.Need-centre-of-gravity-requires
-centre-of-gravity-requires c κs = search needs
-
--- the comment is that of the record's list
-what : (c : tie.After-centre-of-gravity) → comment (c .centre-of-gravity .result) ≡ remark (heldBy (c .before .before .before .before .args .log)) (c .before .before .before .before .args .e)
-what c =
-    let m = c .before .before in
-    let a = m .before .before .args in
-    ap comment (c .centre-of-gravity .ensures) ∙ sym (commented (heldBy (a .log)) (a .e) (m .match .keys2))
-
 put-comment-requires : tie.Need-put-comment-requires
-put-comment-requires c κs = omega (arith, ap length (what c), c .before .before .before .before .pre)
+put-comment-requires c κs =
+    let m = c .before in
+    let a = m .before .before .args in
+    omega (arith, ap length (commented (a .c) (a .e) (m .match .keys2)), m .before .before .pre)
 
 returns : tie.Need-returns
 returns c =
     let a = c .before .before .before .args in
-    put-as _ _ _ _ _ (put-none (a .out .now) (a .at)) _ (sym (uncommented (heldBy (a .log)) (a .e) _ (c .enum-told .given .1)))
+    put-as _ _ _ _ _ (put-none (a .out .now) (a .at)) _ (sym (uncommented (a .c) (a .e) _ (c .enum-told .given .1)))
 
 same-length : tie.Need-same-length
 same-length c = search needs
@@ -37,15 +29,9 @@ same-length c = search needs
 returns-2 : tie.Need-returns-2
 returns-2 c =
     let p = c .before .before in
-    put-as _ _ _ _ _ (p .put-comment .ensures) _ (what (p .before))
+    let m = p .before .before in
+    let a = m .before .before .args in
+    put-as _ _ _ _ _ (p .put-comment .ensures) _ (sym (commented (a .c) (a .e) (m .match .keys2)))
 
 pub put-remark-spec : {M : Type 1} → statement M
-put-remark-spec =
-    tie.close
-    (tie.spec
-    enum-told
-    centre-of-gravity-requires
-    put-comment-requires
-    returns
-    same-length
-    returns-2)
+put-remark-spec = tie.close (tie.spec enum-told put-comment-requires returns same-length returns-2)

@@ -8,7 +8,7 @@ use Rattle.judge.proofs.Judging.{room-of}
 use Rattle.paper.specs.Refusals.{capacity}
 use Rattle.record.specs.declared.Record.{Record}
 use Rattle.record.specs.Held.{heldBy}
-use Rattle.record.proofs.Replays.{sound-at, number-is, log-more}
+use Rattle.record.proofs.Replays.{stands-at, number-is, log-more}
 use Rattle.record.proofs.Calls.{kept, refused-is, accepted-is}
 use Rattle.record.proofs.add.Statement.{statement}
 use Rattle.record.proofs.add.Tie as tie
@@ -17,7 +17,7 @@ replay-requires : tie.Need-replay-requires
 replay-requires c κs = search needs
 
 judge-requires : tie.Need-judge-requires
-judge-requires c κs = sound-at _ _ (c .replay .ensures)
+judge-requires c κs = stands-at _ _ (c .replay .ensures) .sound
 
 enum-known-number : tie.Need-enum-known-number
 enum-known-number c = search needs

@@ -9,14 +9,14 @@ use native.Mathlib.Omega.{arith}
 use lib.ListN.{length, replicate, length-map}
 use Rattle.judge.proofs.Judging.{room-of}
 use Rattle.paper.specs.Refusals.{capacity}
-use Rattle.record.specs.Held.{recordOf, replayed}
-use Rattle.record.proofs.Replays.{begun, Through, one-more, ended, ran-out, sound-at, passed-over, gone-on}
+use Rattle.record.specs.Held.{recordOf, replayed, ReplayedAs}
+use Rattle.record.proofs.Replays.{heldTo, held-ended, held-out, begun, one-more, stands-at, passed-over, gone-on}
 use Rattle.record.proofs.replay.Statement.{statement}
 use Rattle.record.proofs.replay.Tie as tie
 
 abbrev Inv-loop : tie.InvT-loop
 Inv-loop r slots₀ standing₀ n₀ i₀ slots standing n i =
-    (i ≤ capacity) × (i ≤ r .count) × Through i (r .slots) (record { log = record { slots = slots; count = n }; standing = standing })
+    (i ≤ capacity) × (i ≤ r .count) × ReplayedAs (heldTo (r .slots) i) (record { log = record { slots = slots; count = n }; standing = standing })
 
 abbrev μ-loop : tie.MeasureT-loop
 μ-loop r slots₀ standing₀ n₀ i₀ slots standing n i = capacity - i
@@ -41,7 +41,7 @@ element-copy-out-slot : tie.Need-element-copy-out-slot Inv-loop μ-loop
 element-copy-out-slot c = search needs
 
 judge-requires : tie.Need-judge-requires Inv-loop μ-loop
-judge-requires c κs = sound-at _ _ (c .before .before .before .loop .inv .2)
+judge-requires c κs = stands-at _ _ (c .before .before .before .loop .inv .2) .sound
 
 enum-told : tie.Need-enum-told Inv-loop μ-loop
 enum-told c = search needs
@@ -100,13 +100,13 @@ loop-again-2 c =
 returns : tie.Need-returns Inv-loop μ-loop
 returns c =
     let l = c .before .before .loop in
-    ended (c .before .before .before .before .args .t1) (l .i) _ (omega (arith, ltb-false)) (l .inv .2)
+    rw (held-ended (c .before .before .before .before .args .t1) (l .i) (omega (arith, ltb-false))) at (l .inv .2)
 
 returns-2 : tie.Need-returns-2 Inv-loop μ-loop
 returns-2 c =
     let l = c .before .loop in
     let start = c .before .before .before in
-    ran-out (start .args .t1) (l .i) _ (omega (arith, all-slots start)) (l .inv .1) (l .inv .2)
+    rw (held-out (start .args .t1) (l .i) (omega (arith, all-slots start)) (l .inv .1)) at (l .inv .2)
 
 pub replay-spec : {M : Type 1} → statement M
 replay-spec =
