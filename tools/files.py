@@ -1,4 +1,5 @@
-"""What the program `files` prints, by the oracle's reckoning. Its lines are described in the program's src/."""
+"""What the program `files` takes and prints, by the oracle's reckoning. The lines of both are described in the program's
+src/main.rt."""
 
 from oracle import Change, Sheet, Weighing, add, centre_of_gravity, entry_bytes, file_of, read, width, write
 
@@ -7,7 +8,7 @@ MOST = 2000000
 WORD = 2**32 - 1
 ARMS = (-MOST - 1, -MOST, 0, MOST, MOST + 1, -(2**31))
 
-# The entries of the program's letters.
+# Entries by letters, so that a file is a word.
 W = Weighing(m=2, p=310000, q=280100, a=-9500, b=550000, n=150000)
 V = Weighing(m=3, p=355, q=90, a=50, b=13350, n=0)
 LIMITS, FRONT, WATER = (25000, 42500, 380000, 450000, 240000), (-47500, 55000, 110000, 1000), (30000, 100000, 50000)
@@ -41,18 +42,19 @@ def composed(letters):
     return headed(body, 6 + len(body), len(letters))
 
 
-# Lines.
+# Cases: a line that the program takes, and the line that it prints.
 
 
 def numbers(journal):
     return " ".join(map(str, centre_of_gravity(journal)))
 
 
-def answer(data):
-    """The number, or the centre of gravity. That the file afterwards is as it should be has no word in a line."""
+def tried(label, data):
+    """A file read into a fresh record: the number, or the centre of gravity. That the file afterwards is as it should be
+    has no word in a line."""
     number, journal = read(FRESH, data)
     assert file_of(journal) == (file_of(FRESH) if number else data)
-    return str(number) if number else numbers(journal)
+    return f"t{data.hex()} {label}:", f"{label}: {number if number else numbers(journal)}"
 
 
 def byte_sum(data):
@@ -62,31 +64,35 @@ def byte_sum(data):
     return total
 
 
-def kept(label, call):
-    """What a call answered; the journal is handed on."""
+def kept(label, call, arg="", calls=""):
+    """What a call answered. A file that is read is the argument, and else there are calls."""
     number, journal = call
     data = file_of(journal)
-    print(f"[{label}]: {number} {numbers(journal)} 0 {len(data)} {byte_sum(data)}")
-    return journal
+    taken = f"c {label}: {calls}" if calls else f"r{arg} {label}:"
+    return taken, f"{label}: {number} {numbers(journal)} 0 {len(data)} {byte_sum(data)}"
 
 
-# The worked cases.
+# The worked cases, as the record's calls make them: by the letters of the crate `script`.
+
+CHANGED = "c c4500 a-100000 f1"
+CALLS = {"K": "=", "G": "=,w p288000 q0 a63334 n140000,s b0 n0 t1"}
+CALLS |= {"H": f"{CALLS['G']},{CHANGED}", "64 sheets": ",".join(["=", *64 * ["s b0 n0 t1"]])}
+RECORDS = {"K": FRESH, "G": G, "H": (*G, H_CHANGE), "64 sheets": SHEETS}
+
+
+def shown(label, journal, calls):
+    data = file_of(journal)
+    return f"w {label}: {calls}", f"{label}: {numbers(journal)} 0 {len(data)} {data.hex()}"
 
 
 def worked():
     assert file_of(FRESH).hex(" ") == "00 00 00 02 01 00"
     assert centre_of_gravity(G) == (0, 288000, 288000 * 63334, 63334)
     assert (len(file_of(G)), len(file_of(SHEETS))) == (89, 3910)
-    cases = {"K": FRESH, "G": G, "H": (*G, H_CHANGE)}
-    for label, journal in cases.items():
-        shown(label, journal)
-    for label, journal in cases.items():
-        shown(f"{label}, read back", read(FRESH, file_of(journal))[1])
-
-
-def shown(label, journal):
-    data = file_of(journal)
-    print(f"{label}: {numbers(journal)} 0 {len(data)} {data.hex()}")
+    for label in "KGH":
+        journal, calls = RECORDS[label], CALLS[label]
+        yield shown(label, journal, calls)
+        yield shown(f"{label}, read back", read(FRESH, file_of(journal))[1], f"{calls},r")
 
 
 # Short files with a byte or a number altered.
@@ -94,17 +100,15 @@ def shown(label, journal):
 
 def every_byte(letters, places):
     data = composed(letters)
-    print(f"[{letters}]")
     for at in places:
         x = data[at]
         sums = [(x + more) % 256 for more in (1, 128, 255)]
-        others = sums + [y for y in (0, 1, 127, 128, 255) if y not in (x, *sums)]
-        line = (f", {y}: {answer(data[:at] + bytes([y]) + data[at + 1 :])}" for y in others)
-        print(f"byte {at}{''.join(line)}")
+        for y in sums + [y for y in (0, 1, 127, 128, 255) if y not in (x, *sums)]:
+            yield tried(f"[{letters}] byte {at}, {y}", data[:at] + bytes([y]) + data[at + 1 :])
 
 
 def number_altered(at, number, data):
-    print(f"number at {at} {number % 2**32}: {answer(data)}")
+    return tried(f"number at {at} {number % 2**32}", data)
 
 
 def place_of(entries, entry, field):
@@ -116,7 +120,7 @@ def place_of(entries, entry, field):
 def every_number():
     entries = (W, S, C)
     for length in (0, 94, 95, 96, 351, WORD):
-        number_altered(0, length, headed(file_of(entries)[6:], length + 4, 3))
+        yield number_altered(0, length, headed(file_of(entries)[6:], length + 4, 3))
     for entry, field, *others in (
         (W, "p", 0, 280099, 280100, MOST, MOST + 1, WORD),
         (W, "q", 0, 150000, 310000, 310001, MOST + 1, WORD),
@@ -144,17 +148,17 @@ def every_number():
         for other in others:
             changed = entry._replace(**{field: other})
             data = file_of([changed if x is entry else x for x in entries])
-            number_altered(place_of(entries, entry, field), other, data)
+            yield number_altered(place_of(entries, entry, field), other, data)
 
 
 def altered():
-    every_byte("", range(6))
-    every_byte("wc", range(38))
-    every_byte("s", range(6, 67))
-    every_byte("wsc", range(7))
-    every_byte("wsc", [28])
-    every_byte("wsc", [89])
-    every_number()
+    yield from every_byte("", range(6))
+    yield from every_byte("wc", range(38))
+    yield from every_byte("s", range(6, 67))
+    yield from every_byte("wsc", range(7))
+    yield from every_byte("wsc", [28])
+    yield from every_byte("wsc", [89])
+    yield from every_number()
 
 
 # Files cut off, or with a byte 0 more, and with other counts than their own.
@@ -172,10 +176,10 @@ def cut():
         ("w" + 64 * "d", [668], range(64, 67)),
     ):
         data = composed(letters) + bytes(2)
-        print(f"[{letters}]")
         for n in lengths:
-            tries = (f", {count}: {answer(headed(data[6:], n, count)[:n])}" for count in counts)
-            print(f"first {n}: {answer(data[:n])}{''.join(tries)}")
+            yield tried(f"[{letters}] first {n}", data[:n])
+            for count in counts:
+                yield tried(f"[{letters}] first {n}, {count}", headed(data[6:], n, count)[:n])
 
 
 # Entries in turn.
@@ -191,51 +195,56 @@ def turns():
         "0 1 2 3 4 / 0w 4w /w w0 w1 w2 w3 w4 w/ w0c s4w ws/ wsc0 wsc1 wsc2 wsc3",
     ):
         for letters in words.split():
-            print(f"[{letters}]: {answer(composed(letters))}")
+            yield tried(f"[{letters}]", composed(letters))
 
 
 # Records that files are read into, and that changes are made to then.
 
 
-def step(journal, word):
-    """Reads the file of the letters; - reads no bytes, and + is a change, by its call."""
-    if word == "+":
-        return add(journal, H_CHANGE)
-    return read(journal, b"" if word == "-" else composed(word))
-
-
 def records():
-    for journal, words in (
-        (SHEETS, ("wsS", "", "+", "cw", "vs", "+", "wS", "+")),
-        (SHEETS, ("wsc", "+", "v/", "+")),
-        (G, ("+", "-", "wC", "+", "", "+", "w", "+")),
+    """Each word's file is read; - is no bytes, and + is a change, by its call."""
+    for start, words in (
+        ("64 sheets", ("wsS", "", "+", "cw", "vs", "+", "wS", "+")),
+        ("64 sheets", ("wsc", "+", "v/", "+")),
+        ("G", ("+", "-", "wC", "+", "", "+", "w", "+")),
     ):
+        journal = RECORDS[start]
+        yield kept(start, (0, journal), calls=CALLS[start])
         for word in words:
-            journal = kept(word, step(journal, word))
+            data = b"" if word in "+-" and word else composed(word)
+            number, journal = add(journal, H_CHANGE) if word == "+" else read(journal, data)
+            yield kept(f"[{word}]", (number, journal), data.hex(), CHANGED if word == "+" else "")
 
 
 # Writing into buffers.
 
 
-def written_into(label, journal, *lent):
+def written_into(label, *lent):
     """The first bytes of a longer buffer of AA are lent; 16 behind them are looked at."""
     for n in lent:
-        number, length, after = write(journal, n * b"\xaa")
-        looked_at = after + 16 * b"\xaa"
-        print(f"{label} into {n}: {number} {length} {byte_sum(after[:length])} {looked_at[length:].count(0xAA)}")
+        number, length, after = write(RECORDS[label], n * b"\xaa")
+        stay = (after + 16 * b"\xaa")[length:].count(0xAA)
+        answer = f"{number} {length} {byte_sum(after[:length])} {stay}"
+        yield f"i{n} {label} into {n}: {CALLS[label]}", f"{label} into {n}: {answer}"
 
 
 def buffers():
-    written_into("K", FRESH, 0, 1, 5, 6, 7)
-    written_into("G", G, 0, 6, 88, 89, 90)
-    written_into("H", (*G, H_CHANGE), 0, 89, 98, 99, 128)
-    written_into("64 sheets", SHEETS, 0, 6, 99, 3909, 3910)
+    yield from written_into("K", 0, 1, 5, 6, 7)
+    yield from written_into("G", 0, 6, 88, 89, 90)
+    yield from written_into("H", 0, 89, 98, 99, 128)
+    yield from written_into("64 sheets", 0, 6, 99, 3909, 3910)
+
+
+def cases():
+    for part in (worked, altered, cut, turns, records, buffers):
+        yield from part()
+
+
+def taken():
+    for line, _ in cases():
+        print(line)
 
 
 def report():
-    worked()
-    altered()
-    cut()
-    turns()
-    records()
-    buffers()
+    for _, line in cases():
+        print(line)

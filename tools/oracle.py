@@ -372,6 +372,7 @@ if __name__ == "__main__":
     reports = {
         "cases": cases.report,
         "files": files.report,
+        "file-cases": files.taken,
         "plates": plates.report,
         "logbooks": logbooks.report,
         "logbook-cases": logbooks.cases_taken,

@@ -12,8 +12,8 @@ use nodhulika::nodhulika_sheet;
 use nodhulika::nodhulika_undo;
 use nodhulika::nodhulika_weigh;
 use paper::Entry;
+use script::texts::spelled;
 use words::number_at;
-ghost use Prim.Native.Nat.{_<_};
 
 // The longest file and the longest placard's buffer that a case gives.
 const FILE: usize = 4096;
@@ -64,32 +64,6 @@ fn fresh(line: &[u8], buffer: &mut [u8]) -> usize {
     let n = number(line, 6, buffer.len());
     fill(buffer);
     unsigned(nodhulika_fresh(lent(buffer, n)));
-    n
-}
-
-// A digit of sixteen.
-fn digit(x: u8) -> u8
-    ensures { λ r. ⌜ r < 16 ⌝ }
-{
-    if x < b'a' { x % 16 } else { (x % 16 + 9) % 16 }
-}
-
-// The byte that two digits spell.
-fn byte(high: u8, low: u8) -> u8 {
-    digit(high) * 16 + digit(low)
-}
-
-// The bytes that digits of sixteen spell, two for each. The answer is how many.
-fn spelled(digits: &[u8], out: &mut [u8]) -> usize {
-    let pairs = digits.len() / 2;
-    let mut n = 0;
-    while n < pairs {
-        if out.len() <= n {
-            return n;
-        }
-        out[n] = byte(digits[2 * n], digits[2 * n + 1]);
-        n += 1;
-    }
     n
 }
 

@@ -1,6 +1,7 @@
 // Parts of a text, and the numbers in it.
 use std::num::wrapping_add_usize;
 use std::num::wrapping_sub_u64;
+ghost use Prim.Native.Nat.{_<_};
 
 // The byte at a place, or 0 behind the end.
 pub fn byte_at(s: &[u8], i: usize) -> u8 {
@@ -66,4 +67,30 @@ pub fn signed(x: u64) -> i64 {
         return x as i64;
     }
     !((u64::MAX - x) as i64)
+}
+
+// A digit of sixteen.
+fn digit(x: u8) -> u8
+    ensures { λ r. ⌜ r < 16 ⌝ }
+{
+    if x < b'a' { x % 16 } else { (x % 16 + 9) % 16 }
+}
+
+// The byte that two digits spell.
+fn byte(high: u8, low: u8) -> u8 {
+    digit(high) * 16 + digit(low)
+}
+
+// The bytes that digits of sixteen spell, two for each. The answer is how many.
+pub fn spelled(digits: &[u8], out: &mut [u8]) -> usize {
+    let pairs = digits.len() / 2;
+    let mut n = 0;
+    while n < pairs {
+        if out.len() <= n {
+            return n;
+        }
+        out[n] = byte(digits[2 * n], digits[2 * n + 1]);
+        n += 1;
+    }
+    n
 }

@@ -1,11 +1,11 @@
--- `compared::actions::spelled` ends: its loop counts to how many pairs of digits there are. Assumes nothing.
+-- `script::texts::spelled` ends: its loop counts to how many pairs of digits there are. Assumes nothing.
 use borrow.Author.Needs.{needs}
 use mathlib.Core.Path.{_≡_, refl, _∙_}
 use Prim.Native.Nat.{_*_, _-_, _≤_}
 use native.Mathlib.Omega.{arith}
 use lib.ListN.{length, length-set}
-use Rattle.compared.proofs.actions.spelled.Statement.{statement}
-use Rattle.compared.proofs.actions.spelled.Tie as tie
+use Rattle.script.proofs.texts.spelled.Statement.{statement}
+use Rattle.script.proofs.texts.spelled.Tie as tie
 
 abbrev Inv-loop : tie.InvT-loop
 Inv-loop digits out₀ pairs n₀ out n = (n ≤ pairs) × (length out ≡ length out₀) × (pairs * 2 ≤ length digits)
