@@ -201,19 +201,23 @@ def turns():
 # Records that files are read into, and that changes are made to then.
 
 
+def read_in_turn(start, words):
+    journal = RECORDS[start]
+    yield kept(start, (0, journal), calls=CALLS[start])
+    for word in words:
+        data = b"" if word in ("+", "-") else composed(word)
+        number, journal = add(journal, H_CHANGE) if word == "+" else read(journal, data)
+        yield kept(f"[{word}]", (number, journal), data.hex(), CHANGED if word == "+" else "")
+
+
 def records():
     """Each word's file is read; - is no bytes, and + is a change, by its call."""
-    for start, words in (
-        ("64 sheets", ("wsS", "", "+", "cw", "vs", "+", "wS", "+")),
-        ("64 sheets", ("wsc", "+", "v/", "+")),
-        ("G", ("+", "-", "wC", "+", "", "+", "w", "+")),
+    for start, *words in (
+        ("64 sheets", "wsS", "", "+", "cw", "vs", "+", "wS", "+"),
+        ("64 sheets", "wsc", "+", "v/", "+"),
+        ("G", "+", "-", "wC", "+", "", "+", "w", "+"),
     ):
-        journal = RECORDS[start]
-        yield kept(start, (0, journal), calls=CALLS[start])
-        for word in words:
-            data = b"" if word in "+-" and word else composed(word)
-            number, journal = add(journal, H_CHANGE) if word == "+" else read(journal, data)
-            yield kept(f"[{word}]", (number, journal), data.hex(), CHANGED if word == "+" else "")
+        yield list(read_in_turn(start, words))
 
 
 # Writing into buffers.
@@ -236,15 +240,28 @@ def buffers():
 
 
 def cases():
-    for part in (worked, altered, cut, turns, records, buffers):
-        yield from part()
+    """Lists of cases of which each goes on from the record that the one before left."""
+    for part in (worked, altered, cut, turns):
+        yield from ([case] for case in part())
+    yield from records()
+    yield from ([case] for case in buffers())
+
+
+BLOCK = 16384
 
 
 def taken():
-    for line, _ in cases():
-        print(line)
+    """The program takes blocks of whole lists, filled up with line feeds."""
+    block = ""
+    for lines in ("".join(f"{line}\n" for line, _ in group) for group in cases()):
+        if BLOCK < len(block) + len(lines):
+            print(block.ljust(BLOCK, "\n"), end="")
+            block = ""
+        block += lines
+    print(block, end="")
 
 
 def report():
-    for _, line in cases():
-        print(line)
+    for group in cases():
+        for _, line in group:
+            print(line)

@@ -174,6 +174,21 @@ def all_cases():
     return [text.encode("latin-1") for text in texts]
 
 
+BLOCK = 16384
+
+
+def in_blocks():
+    """The cases, and where the next does not fit into a block a case of line feeds that fills it."""
+    texts, left = [], BLOCK
+    for text in all_cases():
+        if left < len(text) + 2:
+            texts.append((left - 1) * b"\n")
+            left = BLOCK
+        texts.append(text)
+        left -= len(text) + 1
+    return texts
+
+
 def case_line(text):
     journal, failing = logbook(text)
     if failing:
@@ -234,13 +249,13 @@ def figures():
 def report():
     """What `logbooks` prints."""
     figures()
-    out = [case_line(text) for text in all_cases()] + [sample_line(name) for name in IN_TURN]
+    out = [case_line(text) for text in in_blocks()] + [sample_line(name) for name in IN_TURN]
     sys.stdout.buffer.write(b"".join(out))
 
 
 def cases_taken():
     """What `logbooks` takes: a tilde behind each case."""
-    sys.stdout.buffer.write(b"".join(text + b"~" for text in all_cases()))
+    sys.stdout.buffer.write(b"".join(text + b"~" for text in in_blocks()))
 
 
 def placards():

@@ -21,7 +21,11 @@ fn done(r: Record, letter: u8, given: &[u8], calls: &[u8]) -> Record {
     }
 }
 
+// A line with its line feed.
 fn act(r: Record, line: &[u8]) -> Record {
+    if line.len() < 2 {
+        return r;
+    }
     let space = place_of(line, b' ');
     let behind = wrapping_add_usize(place_of(line, b':'), 1);
     text(between(line, wrapping_add_usize(space, 1), behind));
@@ -35,7 +39,6 @@ fn act(r: Record, line: &[u8]) -> Record {
     log
 }
 
-// Each line with its line feed.
 pub fn each(s: &[u8]) {
     let mut log = Record::fresh();
     let mut from = 0;

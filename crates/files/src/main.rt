@@ -19,11 +19,20 @@ mod written;
 
 use libc::STDIN_FILENO;
 
-// All cases.
-const CASES: usize = 524288;
+// The cases come in blocks of this many bytes, filled up with line feeds. Each begins with a fresh record.
+const BLOCK: usize = 16384;
 
-fn main() {
-    let mut input = [0u8; CASES];
+const BLOCKS: usize = 20;
+
+// The next block.
+fn block() {
+    let mut input = [0u8; BLOCK];
     let n = io::read_full(STDIN_FILENO, &mut input);
     cases::each(&input[..n]);
+}
+
+fn main() {
+    for _ in 0..BLOCKS {
+        block();
+    }
 }

@@ -9,8 +9,10 @@ use lines::text;
 use lines::unsigned;
 use record::Record;
 
-// All cases.
-const CASES: usize = 262144;
+// The cases come in blocks of this many bytes, each of whole cases.
+const BLOCK: usize = 16384;
+
+const BLOCKS: usize = 20;
 
 // The longest listing that is printed.
 const SHORT: usize = 160;
@@ -63,8 +65,15 @@ fn each(s: &[u8]) {
     }
 }
 
-pub fn run() {
-    let mut input = [0u8; CASES];
+// The next block.
+fn block() {
+    let mut input = [0u8; BLOCK];
     let n = io::read_full(STDIN_FILENO, &mut input);
     each(&input[..n]);
+}
+
+pub fn run() {
+    for _ in 0..BLOCKS {
+        block();
+    }
 }
