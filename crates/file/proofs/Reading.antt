@@ -46,7 +46,7 @@ module _ (s : List ℕ) (count i at : ℕ) (standing : Standing) (log : Record) 
 
   -- what is judged against what stands is judged against the list
   pub sound-in : Sound i standing
-  sound-in = rw (x .many) at (replays.sound-at (x .entries) now (x .held))
+  sound-in = rw (x .many) at (replays.stands-at (x .entries) now (x .held) .sound)
 
   number-in : (e : Entry) → numberAt i (plainly standing) e ≡ entryNumber (x .entries) e
   number-in e = rw (x .many) at (replays.number-is (x .entries) now (x .held) e)
