@@ -36,7 +36,7 @@ act-requires : tie.Need-act-requires Inv-loop μ-loop
 act-requires c κs = search needs
 
 behind-requires : tie.Need-behind-requires Inv-loop μ-loop
-behind-requires c κs = c .before .before .before .before .find .ensures .1
+behind-requires c κs = search needs
 
 loop-less : tie.Need-loop-less Inv-loop μ-loop
 loop-less c =

@@ -32,7 +32,7 @@ case-requires : tie.Need-case-requires Inv-loop μ-loop
 case-requires c κs = search needs
 
 behind-requires : tie.Need-behind-requires Inv-loop μ-loop
-behind-requires c κs = c .before .before .find .ensures .1
+behind-requires c κs = search needs
 
 loop-less : tie.Need-loop-less Inv-loop μ-loop
 loop-less c =
