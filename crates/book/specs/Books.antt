@@ -7,9 +7,7 @@ use Rattle.laws.specs.Splits.{split}
 use Rattle.paper.specs.declared.Entry.{Entry}
 use Rattle.paper.specs.Placard.{feed}
 use Rattle.paper.specs.Journal.{Call, undo, callOf, callNumber, acceptedCall}
-use Rattle.record.specs.declared.Record.{Record}
-use Rattle.record.specs.declared.Kept.{Kept}
-use Rattle.record.specs.Held.{recordOf, answered}
+use Rattle.record.specs.Held.{recordOf}
 use Rattle.language.specs.declared.Line.{Line}
 use Rattle.language.specs.declared.Line.the-variants as line
 use Rattle.language.specs.Lines.{says}
@@ -56,21 +54,3 @@ abbrev pub readingOf : Outcome → Reading
 readingOf (stands es) = record { log = recordOf es; ending = ending.Whole }
 readingOf (refused i n) = failing (ending.Refused i n)
 readingOf (notUnderstood i) = failing (ending.NotUnderstood i)
-
--- what a call on a record answers, as the i-th line's
-unfoldable pub byAnswer : ℕ → Kept → Reading
-byAnswer i k =
-    cond (eqb (k .number) 0) (record { log = k .log; ending = ending.Whole }) (failing (ending.Refused i (k .number)))
-
--- the i-th line on a record
-unfoldable pub turnOn : ℕ → Record → Line → Reading
-turnOn i r line.Passed = record { log = r; ending = ending.Whole }
-turnOn i r line.Undo = byAnswer i (answered r undo)
-turnOn i r (line.Entry e) = byAnswer i (answered r (callOf e))
-turnOn i r line.NotUnderstood = failing (ending.NotUnderstood i)
-
--- and behind lines that came to an ending
-unfoldable pub turned : ℕ → Record → Ending → List ℕ → Reading
-turned i r ending.Whole xs = turnOn i r (says xs)
-turned i r (ending.Refused j n) xs = record { log = r; ending = ending.Refused j n }
-turned i r (ending.NotUnderstood j) xs = record { log = r; ending = ending.NotUnderstood j }

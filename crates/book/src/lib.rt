@@ -1,13 +1,11 @@
 // The logbook: a text whose lines, in turn, are calls on a fresh record.
+use judge::Judged;
+use judge::Standing;
 use language::Line;
-use paper::Entry;
-use record::Kept;
 use record::Record;
+use record::Slot;
 ghost use mathlib.Core.Path.{_≡_};
-ghost use Rattle.language.specs.Lines.{says};
-ghost use Rattle.record.specs.Held.{answered};
-ghost use Rattle.paper.specs.Journal.{callOf};
-ghost use Rattle.book.specs.Books.{bookOf, failing as Books·failing, readingOf, byAnswer, turnOn, turned};
+ghost use Rattle.book.specs.Books.{bookOf, failing as Books·failing, readingOf};
 
 // How a logbook ends: whole, or at the line with this number, with the number of refusal where its call is refused.
 pub enum Ending {
@@ -22,17 +20,6 @@ pub struct Reading {
     pub ending: Ending,
 }
 
-// The call that adds an entry.
-fn add(r: Record, e: Entry) -> Kept
-    ensures { λ k. ⌜ k ≡ answered r (callOf e) ⌝ }
-{
-    match e {
-        Entry::Weighing(w) => r.weigh(w),
-        Entry::Sheet(s) => r.install(s),
-        Entry::Change(x) => r.change(x),
-    }
-}
-
 fn failing(ending: Ending) -> Reading
     ensures { λ r. ⌜ r ≡ Books·failing ending ⌝ }
 {
@@ -40,63 +27,42 @@ fn failing(ending: Ending) -> Reading
     Reading { log, ending }
 }
 
-// A call's answer, as that of the line with this number.
-fn by_answer(line: usize, k: Kept) -> Reading
-    ensures { λ r. ⌜ r ≡ byAnswer line k ⌝ }
-{
-    if k.number != 0 {
-        return failing(Ending::Refused(line, k.number));
-    }
-    let log = k.log;
-    Reading {
-        log,
-        ending: Ending::Whole,
-    }
-}
-
-// The line with this number on a record.
-fn turn_on(line: usize, log: Record, s: &[u8]) -> Reading
-    ensures { λ r. ⌜ r ≡ turnOn line log (says (now (s .entry))) ⌝ }
-{
-    match language::read_line(s) {
-        Line::Passed => Reading {
-            log,
-            ending: Ending::Whole,
-        },
-        Line::Undo => by_answer(line, log.undo()),
-        Line::Entry(e) => by_answer(line, add(log, e)),
-        Line::NotUnderstood => failing(Ending::NotUnderstood(line)),
-    }
-}
-
-// The line with this number, unless one before it ended the logbook.
-fn turn(line: usize, read: Reading, s: &[u8]) -> Reading
-    ensures { λ r. ⌜ r ≡ turned line (read .log) (read .ending) (now (s .entry)) ⌝ }
-{
-    let log = read.log;
-    let ending = read.ending;
-    match ending {
-        Ending::Whole => turn_on(line, log, s),
-        _ => read,
-    }
-}
-
-// A logbook from its first line to its last.
+// A logbook from its first line to its last. The record stays here: an accepted entry is stored in place.
 pub fn read(s: &[u8]) -> Reading
     ensures { λ r. ⌜ r ≡ readingOf (bookOf (now (s .entry))) ⌝ }
 {
-    let log = Record::fresh();
-    let mut read = Reading {
-        log,
-        ending: Ending::Whole,
-    };
+    let mut log = Record::fresh();
+    let mut standing = Standing::Unweighed;
     let mut at = 0;
     let mut line = 0;
     while at < s.len() {
         let end = bytes::scan::find(s, at, s.len(), b'\n');
-        line += 1;
-        read = turn(line, read, &s[at..end]);
+        let said = language::read_line(&s[at..end]);
         at = language::behind(s, end);
+        line += 1;
+        match said {
+            Line::Passed => {}
+            Line::NotUnderstood => return failing(Ending::NotUnderstood(line)),
+            Line::Undo => {
+                let k = log.undo();
+                if k.number != 0 {
+                    return failing(Ending::Refused(line, k.number));
+                }
+                let now = record::replay(k.log);
+                log = now.log;
+                standing = now.standing;
+            }
+            Line::Entry(e) => match judge::judge(log.count, standing, e) {
+                Judged::Refused(number) => return failing(Ending::Refused(line, number)),
+                Judged::Accepted(next) => {
+                    let n = log.count;
+                    log.slots[n] = Slot { entry: e };
+                    log.count = n + 1;
+                    standing = next;
+                }
+            },
+        }
     }
-    read
+    let ending = Ending::Whole;
+    Reading { log, ending }
 }

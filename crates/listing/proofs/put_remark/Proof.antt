@@ -1,9 +1,8 @@
 -- `listing::put_remark` meets its contract, by the kind of the entry. Assumes nothing.
 use borrow.Author.Needs.{needs}
-use mathlib.Core.Path.{_≡_, sym, ap}
+use mathlib.Core.Path.{sym, ap}
 use native.Mathlib.Omega.{arith}
 use lib.ListN.{length}
-use Rattle.listing.specs.Listings.{comment, remark}
 use Rattle.laws.specs.Puts.{put-none, put-as}
 use Rattle.listing.proofs.Turns.{commented, uncommented}
 use Rattle.listing.proofs.put_remark.Statement.{statement}
