@@ -23,7 +23,7 @@ fn front(buffer: &[u8]) -> &[u8]
 
 // What the buffer holds.
 pub fn held(buffer: &[u8]) -> Stored
-    ensures { λ r. ⌜ Finds (fileIn (now (buffer .entry))) (heldIn (now (buffer .entry))) r ⌝ }
+    ensures { λ r. ⌜ Finds (heldIn (now (buffer .entry))) r ⌝ }
 {
     stored::survey(front(buffer))
 }
@@ -67,6 +67,6 @@ pub fn placard(buffer: &[u8], out: &mut [u8]) -> Placard
         };
     };
     let standing = found.standing;
-    let sheet = stored::sheet_at(front(buffer), found.sheet);
+    let sheet = found.sheet;
     page::answer(standing, sheet, out)
 }

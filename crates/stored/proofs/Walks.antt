@@ -7,27 +7,28 @@ use Prim.Native.Nat.{ℕ, _+_, _<_}
 use native.Mathlib.Omega.{arith}
 use lib.ListN.{length, drop, length-append}
 use lib.Pow.{areBytes}
-use borrow.Author.Tests.{eq-eqb, ne-eqb}
-use Rattle.laws.specs.Options.{or-none}
 use Rattle.laws.specs.Lists.{map-append, length-more}
+use Rattle.paper.specs.declared.Sheet.{Sheet}
 use Rattle.paper.specs.declared.Entry.{Entry}
-use Rattle.paper.specs.declared.Entry.the-variants as entry
 use Rattle.paper.specs.Record.{Balance, lastWeighing, balanceOf, asSheet, sheetOf}
 use Rattle.paper.specs.Rows.{joined}
 use Rattle.paper.specs.File.{entryBytes, takeEntries}
 use Rattle.paper.specs.Refusals.{entryNumber, acceptedAfter, accepted, onlyAccepted}
 use Rattle.paper.specs.Journal.{withoutLast}
 use Rattle.paper.proofs.Lists.{joined-last, without-more}
+use Rattle.sheet.specs.declared.InForce.{InForce}
+use Rattle.sheet.specs.declared.InForce.the-variants.{Nothing as InForce·Nothing}
+use Rattle.sheet.specs.InForce.{found}
 use Rattle.sheet.proofs.Lists.{sheet-more}
 use Rattle.judge.specs.declared.Standing.{Standing}
 use Rattle.judge.specs.declared.Standing.the-variants.{Unweighed}
 use Rattle.judge.specs.Standing.{plainly, Sound, numberAt, after}
 use Rattle.judge.proofs.Following.{balance-more, number-at}
 use Rattle.judge.proofs.Accepted.{accepted-more}
-use Rattle.entries.specs.declared.Walk.the-variants.{Got, Nothing}
+use Rattle.entries.specs.declared.Walk.the-variants.{Got}
 use Rattle.entries.specs.Walking.{walkAt}
 use Rattle.stored.specs.declared.Contents.{Contents}
-use Rattle.stored.specs.Found.{bytesIn, sheetAt, sheetPlace, ContentsOf}
+use Rattle.stored.specs.Found.{bytesIn, ContentsOf}
 use Rattle.stored.proofs.Reading.{Rest, none-read, one-read, place-here}
 
 pub length-in : (es : List Entry) (e : Entry) → length (bytesIn (es ++ e ∷ [])) ≡ length (bytesIn es) + length (entryBytes e)
@@ -35,42 +36,29 @@ length-in es e =
     ap length (ap joined (map-append entryBytes es (e ∷ [])) ∙ joined-last (map entryBytes es) (entryBytes e))
     ∙ length-append (bytesIn es) (entryBytes e)
 
--- the place of the sheet in force, behind one entry more
-later-place : (s : List ℕ) (at last : ℕ) (e : Entry) (place : ℕ) → 0 < at → walkAt s at ≡ Got e place → sheetAt s (sheetPlace last at e) ≡ orElse (asSheet e) (sheetAt s last)
-unfolding sheetAt orElse
-later-place s at last (entry.Weighing w) place h g = refl
-later-place s at last (entry.Sheet t) place h g = rw (ne-eqb at 0 (λ z. omega arith), g)
-later-place s at last (entry.Change x) place h g = refl
+-- the sheet in force behind an entry that is no sheet, and behind one
+pub no-sheet : (e : Entry) (f : InForce) → asSheet e ≡ none → found f ≡ orElse (asSheet e) (found f)
+unfolding orElse
+no-sheet e f n = rw n
 
--- the sheet at a place, by what stands there
-module _ (s : List ℕ) (at : ℕ) where
-  pub no-place : at ≡ 0 → none ≡ sheetAt s at
-  unfolding sheetAt
-  no-place e = rw (eq-eqb at 0 e)
-
-  module _ (h : at ≡ 0 → ⊥) where
-    pub nothing-there : walkAt s at ≡ Nothing → none ≡ sheetAt s at
-    unfolding sheetAt
-    nothing-there w = rw (ne-eqb at 0 h, w)
-
-    pub there : (e : Entry) (place : ℕ) → walkAt s at ≡ Got e place → orElse (asSheet e) none ≡ sheetAt s at
-    unfolding sheetAt
-    there e place w = rw (ne-eqb at 0 h, w) (or-none (asSheet e))
+pub this-sheet : (e : Entry) (t : Sheet) (f : InForce) → asSheet e ≡ some t → some t ≡ orElse (asSheet e) (found f)
+unfolding orElse
+this-sheet e t f n = rw n
 
 -- i entries are passed, and the walk stands at a place
 pub record WalkedTo (s : List ℕ) (count : ℕ) (c : Contents) : Type 0 where
   pub entries : List Entry
   pub fine : accepted entries ≡ true
   pub rest : Rest s count (c .count) (c .end) entries
-  pub contents : ContentsOf s entries c
+  pub contents : ContentsOf entries c
 
-pub begun : (s : List ℕ) (count : ℕ) → WalkedTo s count (record { count = 0; standing = Unweighed; sheet = 0; last = 6; end = 6 })
-unfolding accepted acceptedAfter balanceOf lastWeighing sheetOf sheetAt withoutLast joined
+pub begun : (s : List ℕ) (count : ℕ) → WalkedTo s count (record { count = 0; standing = Unweighed; sheet = InForce·Nothing; last = 6; end = 6 })
+unfolding accepted acceptedAfter balanceOf lastWeighing sheetOf withoutLast joined
 begun s count =
     record { entries = []; fine = refl; rest = none-read s count; contents = record { count = refl; stands = refl; sound = tt; sheet = refl; last = refl; end = refl } }
 
 -- what is judged against the contents is judged against the list
-module _ (s : List ℕ) (es : List Entry) (c : Contents) (x : ContentsOf s es c) where
+module _ (es : List Entry) (c : Contents) (x : ContentsOf es c) where
   pub sound-in : Sound (c .count) (c .standing)
   sound-in = rw (x .count) (x .sound)
 
@@ -80,20 +68,20 @@ module _ (s : List ℕ) (es : List Entry) (c : Contents) (x : ContentsOf s es c)
 module _ (s : List ℕ) (count : ℕ) (c : Contents) (w : WalkedTo s count c) where
   -- one entry more, which gets no number
   module _ (b : areBytes s ≡ true) (h : c .count < count) (e : Entry) (place : ℕ) (g : walkAt s (c .end) ≡ Got e place) (n : numberAt (c .count) (plainly (c .standing)) e ≡ 0) where
-    pub gone-on : (t : Standing) (f : ℕ) → plainly t ≡ after (plainly (c .standing)) e → Sound (c .count + 1) t → f ≡ sheetPlace (c .sheet) (c .end) e → WalkedTo s count (record { count = c .count + 1; standing = t; sheet = f; last = c .end; end = place })
+    pub gone-on : (t : Standing) (f : InForce) → plainly t ≡ after (plainly (c .standing)) e → Sound (c .count + 1) t → found f ≡ orElse (asSheet e) (found (c .sheet)) → WalkedTo s count (record { count = c .count + 1; standing = t; sheet = f; last = c .end; end = place })
     gone-on t f p q k =
         let es = w .entries in
         let x = w .contents in
         record {
           entries = es ++ e ∷ [];
-          fine = accepted-more es e (w .fine) (sym (number-in s es c x e) ∙ n);
+          fine = accepted-more es e (w .fine) (sym (number-in es c x e) ∙ n);
           rest = one-read s count (c .count) (c .end) es (w .rest) b h e place g;
           contents =
               record {
                 count = ap (λ (j : ℕ). j + 1) (x .count) ∙ sym (length-more es e);
                 stands = p ∙ ap (λ (o : Option Balance). after o e) (x .stands) ∙ sym (balance-more es e);
                 sound = rw (length-more es e, ← x .count) q;
-                sheet = ap (sheetAt s) k ∙ later-place s (c .end) (c .sheet) e place (omega (arith, x .end)) g ∙ ap (orElse (asSheet e)) (x .sheet) ∙ sym (sheet-more es e);
+                sheet = k ∙ ap (orElse (asSheet e)) (x .sheet) ∙ sym (sheet-more es e);
                 last = x .end ∙ ap (λ (l : List Entry). 6 + length (bytesIn l)) (sym (without-more es e));
                 end = place-here s (c .end) b e place g ∙ omega (arith, x .end, length-in es e);
               };
@@ -104,5 +92,5 @@ module _ (s : List ℕ) (count : ℕ) (c : Contents) (w : WalkedTo s count c) wh
   ended h = rw (h, w .fine)
 
 -- the contents, counted by an equal number
-pub counted : {s : List ℕ} {es : List Entry} {c : Contents} (n : ℕ) → c .count ≡ n → ContentsOf s es c → ContentsOf s es (record { count = n; standing = c .standing; sheet = c .sheet; last = c .last; end = c .end })
+pub counted : {es : List Entry} {c : Contents} (n : ℕ) → c .count ≡ n → ContentsOf es c → ContentsOf es (record { count = n; standing = c .standing; sheet = c .sheet; last = c .last; end = c .end })
 counted n e x = record { count = sym e ∙ x .count; stands = x .stands; sound = x .sound; sheet = x .sheet; last = x .last; end = x .end }

@@ -12,8 +12,7 @@ ghost use Rattle.laws.specs.Written.{written};
 ghost use Rattle.paper.specs.File.{takeEntries};
 ghost use Rattle.paper.specs.Refusals.{onlyAccepted, fileOf};
 ghost use Rattle.stored.specs.Header.{headerOf, headed};
-ghost use Rattle.sheet.specs.InForce.{found};
-ghost use Rattle.stored.specs.Found.{sheetPlace, sheetAt, Finds};
+ghost use Rattle.stored.specs.Found.{Finds};
 
 // The version of the file.
 const VERSION: u8 = 1;
@@ -21,12 +20,12 @@ const VERSION: u8 = 1;
 // The length, the version and the count of entries come first.
 pub const HEADER: usize = 6;
 
-// What stands in the file of a record: how many entries, their balance, the place of the sheet in force (0 where there is
-// none), the place of the last entry (behind the header where there is none) and the place behind it.
+// What stands in the file of a record: how many entries, their balance, the sheet in force, the place of the last entry (behind
+// the header where there is none) and the place behind it.
 pub struct Contents {
     pub count: usize,
     pub standing: Standing,
-    pub sheet: usize,
+    pub sheet: InForce,
     pub last: usize,
     pub end: usize,
 }
@@ -58,36 +57,12 @@ pub fn is_headed(s: &[u8]) -> bool
     words::number_at(s, 0, 4) as usize == behind && s[4] == VERSION
 }
 
-// The place of the sheet in force behind one entry more, which stands at `at`.
-fn sheet_place(last: usize, at: usize, e: Entry) -> usize
-    ensures { λ r. ⌜ r ≡ sheetPlace last at e ⌝ }
-{
-    match e {
-        Entry::Weighing(_) => last,
-        Entry::Sheet(_) => at,
-        Entry::Change(_) => last,
-    }
-}
-
-// The sheet at a place of some bytes, none at the place 0.
-pub fn sheet_at(s: &[u8], at: usize) -> InForce
-    ensures { λ r. ⌜ found r ≡ sheetAt (now (s .entry)) at ⌝ }
-{
-    if at == 0 {
-        return InForce::Nothing;
-    }
-    let Walk::Got(entry, _) = reader::entry_at(s, at) else {
-        return InForce::Nothing;
-    };
-    sheet::later(InForce::Nothing, entry)
-}
-
 // What stands behind the header, judged entry by entry: just as many entries as the count says, and no byte over.
 fn survey_entries(s: &[u8], count: usize) -> Stored
-    ensures { λ r. ⌜ Finds (now (s .entry)) (onlyAccepted (takeEntries count (drop 6 (now (s .entry))))) r ⌝ }
+    ensures { λ r. ⌜ Finds (onlyAccepted (takeEntries count (drop 6 (now (s .entry))))) r ⌝ }
 {
     let mut standing = Standing::Unweighed;
-    let mut sheet = 0;
+    let mut sheet = InForce::Nothing;
     let mut last = HEADER;
     let mut at = HEADER;
     let mut i = 0;
@@ -99,10 +74,14 @@ fn survey_entries(s: &[u8], count: usize) -> Stored
             return Stored::Nothing;
         };
         standing = next;
-        sheet = sheet_place(sheet, at, entry);
         last = at;
         at = place;
         i += 1;
+        match entry {
+            Entry::Weighing(_) => {}
+            Entry::Sheet(t) => sheet = InForce::Found(t),
+            Entry::Change(_) => {}
+        }
     }
     if at < s.len() {
         return Stored::Nothing;
@@ -118,7 +97,7 @@ fn survey_entries(s: &[u8], count: usize) -> Stored
 
 // What stands in some bytes, where they are the file of a record.
 pub fn survey(s: &[u8]) -> Stored
-    ensures { λ r. ⌜ Finds (now (s .entry)) (fileOf (now (s .entry))) r ⌝ }
+    ensures { λ r. ⌜ Finds (fileOf (now (s .entry))) r ⌝ }
 {
     if !is_headed(s) {
         return Stored::Nothing;

@@ -13,8 +13,7 @@ use Rattle.judge.proofs.Judging.{grown}
 use Rattle.judge.proofs.Accepted.{at-most-64}
 use Rattle.stored.specs.declared.Stored.the-variants.{File}
 use Rattle.stored.specs.Found.{Finds}
-use Rattle.stored.specs.Found.{sheetAt}
-use Rattle.front.specs.Front.{fileIn, heldIn}
+use Rattle.front.specs.Front.{heldIn}
 use Rattle.front.proofs.Fronts.{held-accepted}
 use Rattle.front.proofs.Answers.{placard-twelve, placard-held}
 use Rattle.front.proofs.placard.Statement.{statement}
@@ -37,29 +36,16 @@ module _ (c : tie.After-known-told) where
   abbrev buffer : List ℕ
   buffer = c .before .before .before .before .before .before .args .buffer .now
 
-  held : Finds (fileIn buffer) (heldIn buffer) (File (c .before .found .given .0 .0))
+  held : Finds (heldIn buffer) (File (c .before .found .given .0 .0))
   held = rw (c .before .found .given .1) at (c .before .before .before .held .ensures)
-
-front-requires : tie.Need-front-requires
-front-requires c κs = search needs
-
-sheet-at-requires : tie.Need-sheet-at-requires
-sheet-at-requires c κs = search needs
-
--- the sheet at its place is the sheet in force
-sheet : (c : tie.After-sheet-at) → found (c .sheet-at .result) ≡ sheetOf (held (c .before .before) .0)
-sheet c =
-    let k = c .before .before in
-    c .sheet-at .ensures ∙ ap (λ (s : List ℕ). sheetAt s (k .before .found .given .0 .0 .sheet)) (c .before .front .ensures) ∙ held k .2 .sheet
 
 answer-requires : tie.Need-answer-requires
 answer-requires c κs =
-    let a = c .before in
-    let k = a .before .before in
+    let k = c .before in
     let f = held k in
     let fine = held-accepted (buffer k) (f .0) (f .1) in (
       grown (length (f .0)) 4096 (k .before .found .given .0 .0 .standing) (omega (arith, at-most-64 (f .0) fine)) (f .2 .sound),
-      λ s e. sheet-accepted (f .0) s fine (sym (sheet a) ∙ e),
+      λ s e. sheet-accepted (f .0) s fine (sym (f .2 .sheet) ∙ e),
     )
 
 same-length : tie.Need-same-length
@@ -68,9 +54,8 @@ same-length c = search needs
 returns-2 : tie.Need-returns-2
 returns-2 c =
     let p = c .before .before in
-    let a = p .before .before in
-    let f = held (a .before .before) in
-    placard-held _ (f .0) _ _ _ (f .1) (p .answer .ensures (f .0) (f .2 .stands) (sheet a))
+    let f = held (p .before .before) in
+    placard-held _ (f .0) _ _ _ (f .1) (p .answer .ensures (f .0) (f .2 .stands) (f .2 .sheet))
 
 pub placard-spec : {M : Type 1} → statement M
 placard-spec =
@@ -80,8 +65,6 @@ placard-spec =
     enum-known-found
     enum-told
     returns
-    front-requires
-    sheet-at-requires
     answer-requires
     same-length
     returns-2)

@@ -12,7 +12,7 @@ use Rattle.stored.specs.declared.Stored.the-variants.{File}
 use Rattle.stored.specs.Found.{Finds}
 use Rattle.stored.proofs.Parts.{file-size}
 use Rattle.stored.proofs.Walks.{sound-in, number-in}
-use Rattle.front.specs.Front.{fileIn, heldIn}
+use Rattle.front.specs.Front.{heldIn}
 use Rattle.lent.specs.Lent.{lentFile}
 use Rattle.front.proofs.Fronts.{held-file, held-room}
 use Rattle.lent.proofs.Answers.{none-held, refused-held, accepted-held, number-of, list-of}
@@ -41,11 +41,11 @@ module _ (c : tie.After-known-told) where
   abbrev buffer : List ℕ
   buffer = c .before .before .before .before .before .before .args .buffer .now
 
-  held : Finds (fileIn buffer) (heldIn buffer) (File (c .before .found .given .0 .0))
+  held : Finds (heldIn buffer) (File (c .before .found .given .0 .0))
   held = rw (c .before .found .given .1) at (c .before .before .before .held .ensures)
 
 number-requires : tie.Need-number-requires
-number-requires c κs = sound-in (fileIn (buffer c)) (held c .0) _ (held c .2)
+number-requires c κs = sound-in (held c .0) _ (held c .2)
 
 -- the number is the call's
 number : (c : tie.After-number) → c .number .result ≡ callNumber (held (c .before) .0) (callOf (c .before .before .before .before .before .before .before .args .e))
@@ -53,7 +53,7 @@ number c =
     let k = c .before in
     let f = held k in
     let e = k .before .before .before .before .before .before .args .e in
-    c .number .ensures ∙ number-in (fileIn (buffer k)) (f .0) _ (f .2) e ∙ sym (number-of (f .0) e)
+    c .number .ensures ∙ number-in (f .0) _ (f .2) e ∙ sym (number-of (f .0) e)
 
 same-length-2 : tie.Need-same-length-2
 same-length-2 c = search needs

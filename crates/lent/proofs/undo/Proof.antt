@@ -6,7 +6,7 @@ use Prim.Native.Nat.{ℕ}
 use Rattle.paper.specs.Journal.{undo}
 use Rattle.stored.specs.declared.Stored.the-variants.{File}
 use Rattle.stored.specs.Found.{Finds}
-use Rattle.front.specs.Front.{fileIn, heldIn}
+use Rattle.front.specs.Front.{heldIn}
 use Rattle.stored.proofs.Parts.{file-size}
 use Rattle.front.proofs.Fronts.{held-room}
 use Rattle.lent.proofs.Answers.{none-held, bare-held, undone}
@@ -34,7 +34,7 @@ module _ (c : tie.After-known-told) where
   abbrev buffer : List ℕ
   buffer = c .before .before .before .before .before .before .args .buffer .now
 
-  held : Finds (fileIn buffer) (heldIn buffer) (File (c .before .found .given .0 .0))
+  held : Finds (heldIn buffer) (File (c .before .found .given .0 .0))
   held = rw (c .before .found .given .1) at (c .before .before .before .held .ensures)
 
 same-length-2 : tie.Need-same-length-2

@@ -2,17 +2,23 @@
 -- is at hand (`WalkedTo`). Assumes nothing.
 use mathlib.Core.Path.{_≡_, sym, ap, _∙_}
 use mathlib.Core.Bool.{true}
-use Prim.Native.Nat.{_-_, _≤_}
+use mathlib.Core.Option.{none, some, orElse}
+use Prim.Native.Nat.{_+_, _-_, _≤_}
 use native.Mathlib.Omega.{arith}
 use borrow.Author.Needs.{needs}
 use lib.Pow.{areBytes}
+use Rattle.paper.specs.declared.Sheet.{Sheet}
 use Rattle.paper.specs.declared.Entry.{Entry}
+use Rattle.paper.specs.Record.{asSheet}
 use Rattle.paper.specs.Refusals.{onlyAccepted}
 use Rattle.format.specs.Numbers.{bytes-at}
+use Rattle.sheet.specs.declared.InForce.{InForce}
+use Rattle.sheet.specs.declared.InForce.the-variants.{Found}
+use Rattle.sheet.specs.InForce.{found as in-force}
 use Rattle.entries.specs.declared.Walk.the-variants.{Got}
 use Rattle.entries.specs.Walking.{walkAt}
 use Rattle.stored.proofs.Reading.{no-entry, refused-entry, left-over, all-read}
-use Rattle.stored.proofs.Walks.{WalkedTo, begun, sound-in, number-in, gone-on, ended, counted}
+use Rattle.stored.proofs.Walks.{WalkedTo, begun, no-sheet, this-sheet, sound-in, number-in, gone-on, ended, counted}
 use Rattle.stored.proofs.survey_entries.Statement.{statement}
 use Rattle.stored.proofs.survey_entries.Tie as tie
 
@@ -49,7 +55,7 @@ returns c =
 judge-requires : tie.Need-judge-requires Inv-loop μ-loop
 judge-requires c κs =
     let m = c .before .before .before .before .before in
-    sound-in (m .before .before .args .s .now) (m .loop .inv .1 .entries) _ (m .loop .inv .1 .contents)
+    sound-in (m .loop .inv .1 .entries) _ (m .loop .inv .1 .contents)
 
 -- the entry that was read
 module _ (c : tie.After-judge Inv-loop μ-loop) where
@@ -74,31 +80,63 @@ returns-2 c =
     let l = m .loop in
     let a = b .before .args in
     let says = rw (c .enum-told2 .given .1) at (j .judge .ensures) in
-    let number = rw (number-in (a .s .now) (l .inv .1 .entries) _ (l .inv .1 .contents) (entry j)) at (says .1) in
+    let number = rw (number-in (l .inv .1 .entries) _ (l .inv .1 .contents) (entry j)) at (says .1) in
     refused-entry (a .s .now) (a .count) (l .i) (l .at) (l .inv .1 .entries) (l .inv .1 .rest) (bytes b) (n .before .loop-test .taken) (entry j) _ (found j) number
-
-sheet-place-requires : tie.Need-sheet-place-requires Inv-loop μ-loop
-sheet-place-requires c κs = search needs
 
 add-i : tie.Need-add-i Inv-loop μ-loop
 add-i c = search needs
 
+enum-told-3 : tie.Need-enum-told-3 Inv-loop μ-loop
+enum-told-3 c = search needs
+
 loop-less : tie.Need-loop-less Inv-loop μ-loop
 loop-less c = search needs
 
+-- one entry more, whichever sheet is then in force
+module _ (k : tie.After-next Inv-loop μ-loop) where
+  abbrev judged : tie.After-judge Inv-loop μ-loop
+  judged = k .before .before
+
+  abbrev loop : tie.At-loop Inv-loop μ-loop
+  loop = judged .before .before .before .before .before .before
+
+  abbrev With : InForce → Type 0
+  With f =
+      WalkedTo (loop .before .before .args .s .now) (loop .before .before .args .count) (record { count = loop .loop .i + 1; standing = k .next .given .0 .0; sheet = f; last = loop .loop .at; end = judged .before .before .entry .given .0 .1 .0 })
+
+  more : (f : InForce) → in-force f ≡ orElse (asSheet (entry judged)) (in-force (loop .loop .sheet)) → With f
+  more f e =
+      let b = loop .before in
+      let a = b .before .args in
+      let says = rw (k .next .given .1) at (k .before .before .judge .ensures) in
+      gone-on (a .s .now) (a .count) _ (loop .loop .inv .1) (bytes b) (judged .before .before .before .before .before .loop-test .taken) (entry judged) _ (found judged) (says .0) _ f (says .1) (says .2) e
+
+  no-sheet-more : asSheet (entry judged) ≡ none → With (loop .loop .sheet)
+  no-sheet-more e = more (loop .loop .sheet) (no-sheet (entry judged) (loop .loop .sheet) e)
+
+  sheet-more : (t : Sheet) → asSheet (entry judged) ≡ some t → With (Found t)
+  sheet-more t e = more (Found t) (this-sheet (entry judged) t (loop .loop .sheet) e)
+
 loop-again : tie.Need-loop-again Inv-loop μ-loop
-loop-again c =
-    let k = c .before .before in
-    let j = k .before .before in
-    let n = j .before .before .before .before in
-    let m = n .before .before in
-    let b = m .before in
-    let l = m .loop in
-    let a = b .before .args in
-    let says = rw (k .next .given .1) at (j .judge .ensures) in (
-      omega arith,
-      gone-on (a .s .now) (a .count) _ (l .inv .1) (bytes b) (n .before .loop-test .taken) (entry j) _ (found j) (says .0) _ _ (says .1) (says .2) (c .sheet-place .ensures),
-    )
+loop-again c = (omega arith, no-sheet-more (c .before .before .before) (ap asSheet (c .enum-told3 .given .1)))
+
+enum-known-entry-2 : tie.Need-enum-known-entry-2 Inv-loop μ-loop
+enum-known-entry-2 c = search needs
+
+loop-less-2 : tie.Need-loop-less-2 Inv-loop μ-loop
+loop-less-2 c = search needs
+
+loop-again-2 : tie.Need-loop-again-2 Inv-loop μ-loop
+loop-again-2 c = (omega arith, sheet-more (c .before .before .before .before) _ (ap asSheet (c .before .entry2 .given .1)))
+
+enum-told-4 : tie.Need-enum-told-4 Inv-loop μ-loop
+enum-told-4 c = search needs
+
+loop-less-3 : tie.Need-loop-less-3 Inv-loop μ-loop
+loop-less-3 c = search needs
+
+loop-again-3 : tie.Need-loop-again-3 Inv-loop μ-loop
+loop-again-3 c = (omega arith, no-sheet-more (c .before .before .before) (ap asSheet (c .enum-told4 .given .1)))
 
 returns-3 : tie.Need-returns-3 Inv-loop μ-loop
 returns-3 c =
@@ -132,9 +170,15 @@ survey-entries-spec =
     enum-known-next
     enum-told-2
     returns-2
-    sheet-place-requires
     add-i
+    enum-told-3
     loop-less
     loop-again
+    enum-known-entry-2
+    loop-less-2
+    loop-again-2
+    enum-told-4
+    loop-less-3
+    loop-again-3
     returns-3
     returns-4)
