@@ -69,10 +69,22 @@ module _ (ns : List ℕ) (e : length ns ≡ 15) where
   unfolding entryWith layoutOf entryOf valuesBy fieldValue
   weighing-in = sym (ap (entryWith 1) (by-elements 15 ns 0 e))
 
-  pub sheet-in : entry.Sheet (sheetIn ns) ≡ entryWith 2 ns
+  sheet-in : entry.Sheet (sheetIn ns) ≡ entryWith 2 ns
   unfolding entryWith layoutOf entryOf valuesBy fieldValue
   sheet-in = sym (ap (entryWith 2) (by-elements 15 ns 0 e))
 
   pub change-in : entry.Change (changeIn ns) ≡ entryWith 3 ns
   unfolding entryWith layoutOf entryOf valuesBy fieldValue
   change-in = sym (ap (entryWith 3) (by-elements 15 ns 0 e))
+
+  -- a sheet of its parts
+  pub sheet-made :
+      {fwd aft : ℤ}
+      {front rear water : Station}
+      → fwd ≡ arm ns 0
+      → aft ≡ arm ns 1
+      → front ≡ stationIn ns 5 7 8
+      → rear ≡ stationIn ns 9 10 11
+      → water ≡ stationIn ns 12 13 14
+      → entry.Sheet (record { fwd = fwd; aft = aft; dry = getD ns 2 0; wet = getD ns 3 0; nlp = getD ns 4 0; front = front; least = getD ns 6 0; rear = rear; water = water }) ≡ entryWith 2 ns
+  sheet-made a b f r w = rw (a, b, f, r, w) sheet-in

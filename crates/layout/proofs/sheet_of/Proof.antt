@@ -1,9 +1,9 @@
 -- `layout::sheet_of` meets its contract: each field is a word, or the number that it stands for. Assumes nothing.
 use borrow.Author.Needs.{needs}
-use mathlib.Core.Path.{_≡_}
+use mathlib.Core.Path.{_≡_, _∙_}
 use lib.ListN.{length}
 use mir.Facts.{toZ-ofZ}
-use Rattle.layout.proofs.Forms.{sheet-in}
+use Rattle.layout.proofs.Forms.{sheet-made}
 use Rattle.layout.proofs.sheet_of.Statement.{statement}
 use Rattle.layout.proofs.sheet_of.Tie as tie
 
@@ -87,16 +87,7 @@ returns c =
     let e : length ns ≡ 15 = search needs in
     let fwd = arms .before .signed in
     let aft = arms .signed2 in
-    rw (
-      toZ-ofZ (record { sfits = fwd .ok }),
-      fwd .ensures,
-      toZ-ofZ (record { sfits = aft .ok }),
-      aft .ensures,
-      seats .station-of .ensures,
-      c .before .station-of2 .ensures,
-      c .station-of3 .ensures,
-    )
-    (sheet-in ns e)
+    sheet-made ns e (toZ-ofZ (record { sfits = fwd .ok }) ∙ fwd .ensures) (toZ-ofZ (record { sfits = aft .ok }) ∙ aft .ensures) (seats .station-of .ensures) (c .before .station-of2 .ensures) (c .station-of3 .ensures)
 
 pub sheet-of-spec : {M : Type 1} → statement M
 sheet-of-spec =

@@ -1,10 +1,55 @@
 -- `values::sheet_of` meets its contract: all but the arms are without their signs. Assumes nothing.
 use mathlib.Core.Path.{_≡_}
+use mathlib.Core.List.{List}
+use Prim.Native.Nat.{ℕ, _^_, _<_}
+use lib.IntN.{ℤ, natAbs}
+use lib.Signed.{mag}
+use mir.Syntax.{w64}
+use mir.Val.{hbits, toZ, ofZ}
 use borrow.Author.Needs.{needs}
 use mir.Facts.{toZ-ofZ}
-use Rattle.paper.specs.File.{plainAt, stationAt, entryOf}
+use Rattle.paper.specs.declared.Station.{Station}
+use Rattle.paper.specs.declared.Entry.the-variants as entry
+use Rattle.paper.specs.File.{signedAt, plainAt, stationAt, entryOf}
 use Rattle.values.proofs.sheet_of.Statement.{statement}
 use Rattle.values.proofs.sheet_of.Tie as tie
+
+-- what a list's values come to that were held in registers
+module _ (v : List ℤ) where
+  held : (i : ℕ) → mag (signedAt v i) < 2 ^ hbits w64 → toZ w64 (ofZ w64 (signedAt v i)) ≡ signedAt v i
+  held i h = toZ-ofZ (record { sfits = h })
+
+  plain-held : (i : ℕ) (r : ℕ) → mag (signedAt v i) < 2 ^ hbits w64 → r ≡ natAbs (toZ w64 (ofZ w64 (signedAt v i))) → r ≡ plainAt v i
+  plain-held i r h e = rw (held i h) at e
+
+  station-held :
+      (i j k : ℕ)
+      (r : Station)
+      → mag (signedAt v i) < 2 ^ hbits w64
+      → mag (signedAt v j) < 2 ^ hbits w64
+      → mag (signedAt v k) < 2 ^ hbits w64
+      → r ≡ record { arm = toZ w64 (ofZ w64 (signedAt v i)); most = natAbs (toZ w64 (ofZ w64 (signedAt v j))); step = natAbs (toZ w64 (ofZ w64 (signedAt v k))) }
+      → r ≡ stationAt v i j k
+  station-held i j k r f g h e = rw (held i f, held j g, held k h) at e
+
+-- a sheet with the values of a list is the list's
+sheet-made :
+    {fwd aft : ℤ}
+    {dry wet nlp least : ℕ}
+    {front rear water : Station}
+    (v : List ℤ)
+    → fwd ≡ signedAt v 0
+    → aft ≡ signedAt v 1
+    → dry ≡ plainAt v 2
+    → wet ≡ plainAt v 3
+    → nlp ≡ plainAt v 4
+    → front ≡ stationAt v 5 7 8
+    → least ≡ plainAt v 6
+    → rear ≡ stationAt v 9 10 11
+    → water ≡ stationAt v 12 13 14
+    → entry.Sheet (record { fwd = fwd; aft = aft; dry = dry; wet = wet; nlp = nlp; front = front; least = least; rear = rear; water = water }) ≡ entryOf 2 v
+unfolding entryOf
+sheet-made v a b c d e f g h i = rw (a, b, c, d, e, f, g, h, i)
 
 array-copy-out-t5 : tie.Need-array-copy-out-t5
 array-copy-out-t5 c = search needs
@@ -73,7 +118,6 @@ station-of-requires-3 : tie.Need-station-of-requires-3
 station-of-requires-3 c κs = search needs
 
 returns : tie.Need-returns
-unfolding entryOf
 returns c =
     let r = c .before .before .before .before in
     let l = r .before .before .before .before in
@@ -84,20 +128,16 @@ returns c =
     let aft = first .before .before in
     let fwd = aft .before in
     let v = fwd .before .args .t1 in
-    let dry : first .plain .result ≡ plainAt v 2 = rw (toZ-ofZ (record { sfits = first .before .plain-arg .given })) at (first .plain .ensures) in
-    let wet : second .plain2 .result ≡ plainAt v 3 = rw (toZ-ofZ (record { sfits = second .before .plain-arg2 .given })) at (second .plain2 .ensures) in
-    let nlp : third .plain3 .result ≡ plainAt v 4 = rw (toZ-ofZ (record { sfits = third .before .plain-arg3 .given })) at (third .plain3 .ensures) in
-    let front : f .station-of .result ≡ stationAt v 5 7 8 =
-    rw (toZ-ofZ (record { sfits = f .before .before .before .station-of-arg .given }), toZ-ofZ (record { sfits = f .before .before .station-of-arg2 .given }), toZ-ofZ (record { sfits = f .before .station-of-arg3 .given })) at (f .station-of .ensures)
-    in
-    let least : l .plain4 .result ≡ plainAt v 6 = rw (toZ-ofZ (record { sfits = l .before .plain-arg4 .given })) at (l .plain4 .ensures) in
-    let rear : r .station-of2 .result ≡ stationAt v 9 10 11 =
-    rw (toZ-ofZ (record { sfits = r .before .before .before .station-of-arg4 .given }), toZ-ofZ (record { sfits = r .before .before .station-of-arg5 .given }), toZ-ofZ (record { sfits = r .before .station-of-arg6 .given })) at (r .station-of2 .ensures)
-    in
-    let water : c .station-of3 .result ≡ stationAt v 12 13 14 =
-    rw (toZ-ofZ (record { sfits = c .before .before .before .station-of-arg7 .given }), toZ-ofZ (record { sfits = c .before .before .station-of-arg8 .given }), toZ-ofZ (record { sfits = c .before .station-of-arg9 .given })) at (c .station-of3 .ensures)
-    in
-    rw (toZ-ofZ (record { sfits = fwd .t5 .given }), toZ-ofZ (record { sfits = aft .t8 .given }), dry, wet, nlp, front, least, rear, water)
+    sheet-made v
+    (held v 0 (fwd .t5 .given))
+    (held v 1 (aft .t8 .given))
+    (plain-held v 2 _ (first .before .plain-arg .given) (first .plain .ensures))
+    (plain-held v 3 _ (second .before .plain-arg2 .given) (second .plain2 .ensures))
+    (plain-held v 4 _ (third .before .plain-arg3 .given) (third .plain3 .ensures))
+    (station-held v 5 7 8 _ (f .before .before .before .station-of-arg .given) (f .before .before .station-of-arg2 .given) (f .before .station-of-arg3 .given) (f .station-of .ensures))
+    (plain-held v 6 _ (l .before .plain-arg4 .given) (l .plain4 .ensures))
+    (station-held v 9 10 11 _ (r .before .before .before .station-of-arg4 .given) (r .before .before .station-of-arg5 .given) (r .before .station-of-arg6 .given) (r .station-of2 .ensures))
+    (station-held v 12 13 14 _ (c .before .before .before .station-of-arg7 .given) (c .before .before .station-of-arg8 .given) (c .before .station-of-arg9 .given) (c .station-of3 .ensures))
 
 pub sheet-of-spec : {M : Type 1} → statement M
 sheet-of-spec =
