@@ -1,5 +1,3 @@
--- What the proofs share: one field more, words by their places, the rows of the table, what is found at a place, and an entry's bytes.
-pub mod Turns
-pub mod Words
+-- What the proofs share: the rows of the table, and what is found at a place.
 pub mod Rows
 pub mod Places

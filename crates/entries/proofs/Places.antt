@@ -16,7 +16,8 @@ use Rattle.format.specs.Rows.{fieldsAt}
 use Rattle.layout.specs.Table.{padded, entryWith}
 use Rattle.entries.specs.declared.Walk.the-variants.{Got, Nothing}
 use Rattle.entries.specs.declared.Walk.{Walk}
-use Rattle.entries.specs.Walking.{wordsAt, fieldsWalk, walkAt}
+use Rattle.fields.specs.Words.{wordsAt}
+use Rattle.entries.specs.Walking.{fieldsWalk, walkAt}
 
 -- only as many numbers count as there are fields
 values-front : (fs : List Field) (ns ms : List ℕ) → length ns ≡ length fs → valuesBy fs (ns ++ ms) ≡ valuesBy fs ns

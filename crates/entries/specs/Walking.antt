@@ -1,23 +1,18 @@
--- The words of an entry's fields as they stand in some bytes, and what reading an entry at a place finds.
+-- What reading an entry at a place finds.
 use mathlib.Core.Bool.{cond}
 use mathlib.Core.List.{List}
 use mathlib.Core.Option.{Option, none, some}
 use Prim.Native.Nat.{ℕ, _+_, _-_}
 use lib.Dec.{leb}
 use lib.ListN.{length, drop}
-use Rattle.paper.specs.declared.Sheet.{Sheet}
 use Rattle.paper.specs.declared.Entry.{Entry}
-use Rattle.paper.specs.Record.{asSheet}
 use Rattle.paper.specs.File.{takeEntry}
-use Rattle.format.specs.Fields.{widths, total, numbersFrom}
+use Rattle.format.specs.Fields.{widths, total}
 use Rattle.format.specs.Rows.{fieldsAt}
-use Rattle.layout.specs.Table.{padded, entryWith}
+use Rattle.layout.specs.Table.{entryWith}
+use Rattle.fields.specs.Words.{wordsAt}
 use Rattle.entries.specs.declared.Walk.{Walk}
 use Rattle.entries.specs.declared.Walk.the-variants.{Got, Nothing}
-
--- the words of a kind's fields that some bytes begin with
-unfoldable pub wordsAt : ℕ → List ℕ → List ℕ
-wordsAt k xs = padded (numbersFrom (widths (fieldsAt k)) xs)
 
 -- an entry of a kind whose fields begin at a place, and the place behind them; nothing where there are fewer bytes
 unfoldable pub fieldsWalk : ℕ → List ℕ → ℕ → Walk
@@ -33,8 +28,3 @@ walkOf n (some p) = Got (p .0) (n - length (p .1))
 
 unfoldable pub walkAt : List ℕ → ℕ → Walk
 walkAt s at = walkOf (length s) (takeEntry (drop at s))
-
--- the sheet among what is found
-abbrev pub sheetIn : Walk → Option Sheet
-sheetIn (Got e place) = asSheet e
-sheetIn Nothing = none

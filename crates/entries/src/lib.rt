@@ -1,35 +1,16 @@
 // One entry's bytes: written at a place of a buffer, and read at a place of a slice.
-use layout::FIELDS;
-use layout::Layout;
 use paper::Entry;
-use words::number_at;
 ghost use mathlib.Core.Path.{_≡_};
 ghost use Prim.Native.Nat.{_+_, _≤_};
-ghost use lib.ListN.{length, take, drop};
+ghost use lib.ListN.{length};
 ghost use Rattle.laws.specs.Written.{written};
 ghost use Rattle.paper.specs.File.{entryBytes};
-ghost use Rattle.format.specs.Fields.{total, numbersBytes};
-ghost use Rattle.entries.specs.Walking.{wordsAt, fieldsWalk, walkAt};
+ghost use Rattle.entries.specs.Walking.{fieldsWalk, walkAt};
 
 // What reading an entry at a place finds: it and the place behind it, or nothing that is one.
 pub enum Walk {
     Got(Entry, usize),
     Nothing,
-}
-
-// The fields of a row, each at its width.
-fn put_fields(out: &mut [u8], at: usize, row: Layout, words: [u64; FIELDS])
-    requires { ⌜ (row .count ≤ 15) × (at + total (take (row .count) (row .widths)) ≤ length (now out)) ⌝ }
-    ensures { λ _. ⌜ now (out .exit) ≡ written (now (out .entry)) at (numbersBytes (take (row .count) (row .widths)) (take (row .count) words)) ⌝ }
-{
-    let mut to = at;
-    let mut i = 0;
-    while i < row.count {
-        let width = row.widths[i];
-        words::put_number(out, to, width, words[i]);
-        to += width;
-        i += 1;
-    }
 }
 
 // An entry: its kind, and its fields. The answer is the place behind it.
@@ -43,7 +24,7 @@ pub fn put_entry(out: &mut [u8], at: usize, e: Entry) -> usize
     let row = layout::layout_of(kind);
     let from = at + 1;
     out[at] = kind;
-    put_fields(out, from, row, words);
+    fields::put_fields(out, from, row, words);
     from + row.length
 }
 
@@ -56,99 +37,6 @@ pub fn length_of(e: Entry) -> usize
     row.length + 1
 }
 
-// The words of a weighing: m; p, q, a, b, n. Each place is behind the one before it, as the table has them.
-fn weighing_at(s: &[u8], at: usize) -> [u32; FIELDS]
-    requires { ⌜ at + 21 ≤ length (now s) ⌝ }
-    ensures { λ r. ⌜ r ≡ wordsAt 1 (drop at (now (s .entry))) ⌝ }
-{
-    let p = at + 1;
-    let q = p + 4;
-    let a = q + 4;
-    let b = a + 4;
-    let n = b + 4;
-    [
-        number_at(s, at, 1),
-        number_at(s, p, 4),
-        number_at(s, q, 4),
-        number_at(s, a, 4),
-        number_at(s, b, 4),
-        number_at(s, n, 4),
-        0,
-        0,
-        0,
-        0,
-        0,
-        0,
-        0,
-        0,
-        0,
-    ]
-}
-
-// The words of a sheet: FWD, AFT, DRY, WET, NLP; front arm, least, greatest, step; rear and water arm, greatest, step.
-fn sheet_at(s: &[u8], at: usize) -> [u32; FIELDS]
-    requires { ⌜ at + 60 ≤ length (now s) ⌝ }
-    ensures { λ r. ⌜ r ≡ wordsAt 2 (drop at (now (s .entry))) ⌝ }
-{
-    let aft = at + 4;
-    let dry = aft + 4;
-    let wet = dry + 4;
-    let nlp = wet + 4;
-    let front = nlp + 4;
-    let least = front + 4;
-    let most = least + 4;
-    let step = most + 4;
-    let rear = step + 4;
-    let rear_most = rear + 4;
-    let rear_step = rear_most + 4;
-    let water = rear_step + 4;
-    let water_most = water + 4;
-    let water_step = water_most + 4;
-    [
-        number_at(s, at, 4),
-        number_at(s, aft, 4),
-        number_at(s, dry, 4),
-        number_at(s, wet, 4),
-        number_at(s, nlp, 4),
-        number_at(s, front, 4),
-        number_at(s, least, 4),
-        number_at(s, most, 4),
-        number_at(s, step, 4),
-        number_at(s, rear, 4),
-        number_at(s, rear_most, 4),
-        number_at(s, rear_step, 4),
-        number_at(s, water, 4),
-        number_at(s, water_most, 4),
-        number_at(s, water_step, 4),
-    ]
-}
-
-// The words of a change: c, arm; flag.
-fn change_at(s: &[u8], at: usize) -> [u32; FIELDS]
-    requires { ⌜ at + 9 ≤ length (now s) ⌝ }
-    ensures { λ r. ⌜ r ≡ wordsAt 3 (drop at (now (s .entry))) ⌝ }
-{
-    let arm = at + 4;
-    let flag = arm + 4;
-    [
-        number_at(s, at, 4),
-        number_at(s, arm, 4),
-        number_at(s, flag, 1),
-        0,
-        0,
-        0,
-        0,
-        0,
-        0,
-        0,
-        0,
-        0,
-        0,
-        0,
-        0,
-    ]
-}
-
 // What stands behind the kind of a weighing: its fields, where there are bytes enough.
 fn weighing_from(s: &[u8], from: usize) -> Walk
     requires { ⌜ from ≤ length (now s) ⌝ }
@@ -157,7 +45,7 @@ fn weighing_from(s: &[u8], from: usize) -> Walk
     if s.len() - from < 21 {
         return Walk::Nothing;
     }
-    Walk::Got(layout::entry_of(1, weighing_at(s, from)), from + 21)
+    Walk::Got(layout::entry_of(1, fields::weighing_at(s, from)), from + 21)
 }
 
 // Behind the kind of a sheet.
@@ -168,7 +56,7 @@ fn sheet_from(s: &[u8], from: usize) -> Walk
     if s.len() - from < 60 {
         return Walk::Nothing;
     }
-    Walk::Got(layout::entry_of(2, sheet_at(s, from)), from + 60)
+    Walk::Got(layout::entry_of(2, fields::sheet_at(s, from)), from + 60)
 }
 
 // Behind the kind of a change.
@@ -179,7 +67,7 @@ fn change_from(s: &[u8], from: usize) -> Walk
     if s.len() - from < 9 {
         return Walk::Nothing;
     }
-    Walk::Got(layout::entry_of(3, change_at(s, from)), from + 9)
+    Walk::Got(layout::entry_of(3, fields::change_at(s, from)), from + 9)
 }
 
 // The entry at a place.

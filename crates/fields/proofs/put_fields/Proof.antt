@@ -1,4 +1,4 @@
--- `entries::put_fields` meets its contract. The loop's invariant: the first i words are written, and `to` is behind them.
+-- `fields::put_fields` meets its contract. The loop's invariant: the first i words are written, and `to` is behind them.
 -- Assumes nothing.
 use mathlib.Core.Path.{_≡_, _∙_, sym, ap}
 use Prim.Native.Nat.{ℕ, _+_, _-_, _≤_}
@@ -7,9 +7,9 @@ use borrow.Author.Needs.{needs}
 use lib.ListN.{length, getD, take, length-map}
 use Rattle.laws.specs.Written.{written-none}
 use Rattle.format.specs.Fields.{total, numbersBytes}
-use Rattle.entries.proofs.Turns.{room, part, total-taken, writtenTo, put-length, put-more}
-use Rattle.entries.proofs.put_fields.Statement.{statement}
-use Rattle.entries.proofs.put_fields.Tie as tie
+use Rattle.fields.proofs.Turns.{room, part, total-taken, writtenTo, put-length, put-more}
+use Rattle.fields.proofs.put_fields.Statement.{statement}
+use Rattle.fields.proofs.put_fields.Tie as tie
 
 abbrev Inv-loop : tie.InvT-loop
 Inv-loop out₀ at row words to₀ i₀ out to i = (i ≤ row .count) × (to ≡ at + total (take i (row .widths))) × (out ≡ writtenTo out₀ at (row .widths) words i)

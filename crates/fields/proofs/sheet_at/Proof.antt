@@ -1,4 +1,4 @@
--- `entries::sheet_at` meets its contract: the words of a sheet stand one behind the other. Assumes nothing.
+-- `fields::sheet_at` meets its contract: the words of a sheet stand one behind the other. Assumes nothing.
 use borrow.Author.Needs.{needs}
 use mathlib.Core.Path.{_≡_, sym, _∙_}
 use mathlib.Core.List.{[], _∷_}
@@ -6,9 +6,9 @@ use Rattle.paper.specs.File.{layoutOf}
 use Rattle.format.specs.Fields.{widths}
 use Rattle.format.specs.Rows.{fieldsAt}
 use Rattle.layout.specs.Table.{padded}
-use Rattle.entries.proofs.Words.{placed, words-placed}
-use Rattle.entries.proofs.sheet_at.Statement.{statement}
-use Rattle.entries.proofs.sheet_at.Tie as tie
+use Rattle.fields.proofs.Placed.{placed, words-placed}
+use Rattle.fields.proofs.sheet_at.Statement.{statement}
+use Rattle.fields.proofs.sheet_at.Tie as tie
 
 add-aft : tie.Need-add-aft
 add-aft c = search needs

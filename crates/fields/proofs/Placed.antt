@@ -8,7 +8,7 @@ use Rattle.paper.specs.File.{numberOf}
 use Rattle.format.specs.Fields.{widths, numbersFrom}
 use Rattle.format.specs.Rows.{fieldsAt}
 use Rattle.layout.specs.Table.{padded}
-use Rattle.entries.specs.Walking.{wordsAt}
+use Rattle.fields.specs.Words.{wordsAt}
 
 -- the numbers of these widths from a place on, each behind the one before it
 unfoldable pub placed : List ℕ → List ℕ → ℕ → List ℕ

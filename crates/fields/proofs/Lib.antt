@@ -1,0 +1,3 @@
+-- What the proofs share: one field more, and words by their places.
+pub mod Turns
+pub mod Placed

@@ -1,0 +1,2 @@
+-- The words of an entry's fields.
+pub mod Words
