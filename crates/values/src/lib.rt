@@ -3,10 +3,8 @@ use layout::FIELDS;
 use paper::Change;
 use paper::Entry;
 use paper::Sheet;
-use paper::Station;
 use paper::Weighing;
 ghost use mathlib.Core.Path.{_≡_};
-ghost use lib.IntN.{natAbs};
 ghost use Rattle.paper.specs.declared.Entry.the-variants as entry;
 ghost use Rattle.paper.specs.File.{entryOf};
 ghost use Rattle.values.specs.Places.{Readable, valuesIn};
@@ -110,73 +108,13 @@ pub fn values_of(e: Entry) -> Values
     }
 }
 
-// A value without its sign.
-fn plain(x: i64) -> u64
-    ensures { λ r. ⌜ r ≡ natAbs x ⌝ }
-{
-    if x < 0 {
-        laws::under(x) + 1
-    } else {
-        laws::size(x)
-    }
-}
-
-fn weighing_of(v: [i64; FIELDS]) -> Weighing
-    ensures { λ r. ⌜ entry.Weighing r ≡ entryOf 1 v ⌝ }
-{
-    Weighing {
-        m: plain(v[0]),
-        p: plain(v[1]),
-        q: plain(v[2]),
-        a: v[3],
-        b: plain(v[4]),
-        n: plain(v[5]),
-    }
-}
-
-fn station_of(arm: i64, most: i64, step: i64) -> Station
-    ensures { λ r. ⌜ r ≡ record { arm = arm; most = natAbs most; step = natAbs step } ⌝ }
-{
-    Station {
-        arm,
-        most: plain(most),
-        step: plain(step),
-    }
-}
-
-fn sheet_of(v: [i64; FIELDS]) -> Sheet
-    ensures { λ r. ⌜ entry.Sheet r ≡ entryOf 2 v ⌝ }
-{
-    Sheet {
-        fwd: v[0],
-        aft: v[1],
-        dry: plain(v[2]),
-        wet: plain(v[3]),
-        nlp: plain(v[4]),
-        front: station_of(v[5], v[7], v[8]),
-        least: plain(v[6]),
-        rear: station_of(v[9], v[10], v[11]),
-        water: station_of(v[12], v[13], v[14]),
-    }
-}
-
-fn change_of(v: [i64; FIELDS]) -> Change
-    ensures { λ r. ⌜ entry.Change r ≡ entryOf 3 v ⌝ }
-{
-    Change {
-        c: v[0],
-        arm: v[1],
-        flag: plain(v[2]),
-    }
-}
-
 // The entry of a kind with these values.
 pub fn entry_of(kind: u8, v: [i64; FIELDS]) -> Entry
     ensures { λ r. ⌜ r ≡ entryOf kind v ⌝ }
 {
     match kind {
-        1 => Entry::Weighing(weighing_of(v)),
-        2 => Entry::Sheet(sheet_of(v)),
-        _ => Entry::Change(change_of(v)),
+        1 => Entry::Weighing(kinds::weighing_of(v)),
+        2 => Entry::Sheet(kinds::sheet_of(v)),
+        _ => Entry::Change(kinds::change_of(v)),
     }
 }

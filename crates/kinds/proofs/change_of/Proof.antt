@@ -1,10 +1,10 @@
--- `values::change_of` meets its contract: the flag is without its sign. Assumes nothing.
+-- `kinds::change_of` meets its contract: the flag is without its sign. Assumes nothing.
 use mathlib.Core.Path.{_≡_}
 use borrow.Author.Needs.{needs}
 use mir.Facts.{toZ-ofZ}
 use Rattle.paper.specs.File.{plainAt, entryOf}
-use Rattle.values.proofs.change_of.Statement.{statement}
-use Rattle.values.proofs.change_of.Tie as tie
+use Rattle.kinds.proofs.change_of.Statement.{statement}
+use Rattle.kinds.proofs.change_of.Tie as tie
 
 array-copy-out-t5 : tie.Need-array-copy-out-t5
 array-copy-out-t5 c = search needs

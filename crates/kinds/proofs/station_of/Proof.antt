@@ -1,10 +1,10 @@
--- `values::station_of` meets its contract: the two sizes are without their signs. Assumes nothing.
+-- `kinds::station_of` meets its contract: the two sizes are without their signs. Assumes nothing.
 use mathlib.Core.Path.{_≡_}
 use borrow.Author.Needs.{needs}
 use lib.IntN.{natAbs}
 use mir.Facts.{toZ-ofZ}
-use Rattle.values.proofs.station_of.Statement.{statement}
-use Rattle.values.proofs.station_of.Tie as tie
+use Rattle.kinds.proofs.station_of.Statement.{statement}
+use Rattle.kinds.proofs.station_of.Tie as tie
 
 plain-requires : tie.Need-plain-requires
 plain-requires c κs = search needs

@@ -1,4 +1,4 @@
--- `values::plain` meets its contract: by the side of 0 that the value is on. Assumes nothing.
+-- `kinds::plain` meets its contract: by the side of 0 that the value is on. Assumes nothing.
 use mathlib.Core.Path.{_≡_, ap, _∙_, sym}
 use Prim.Native.Nat.{suc}
 use native.Mathlib.Numerals.{add-one}
@@ -7,8 +7,8 @@ use borrow.Author.Needs.{needs}
 use lib.IntN.{natAbs}
 use mir.Facts.{toZ-ofZ}
 use Rattle.laws.specs.Z.{zs}
-use Rattle.values.proofs.plain.Statement.{statement}
-use Rattle.values.proofs.plain.Tie as tie
+use Rattle.kinds.proofs.plain.Statement.{statement}
+use Rattle.kinds.proofs.plain.Tie as tie
 
 under-requires : tie.Need-under-requires
 under-requires c κs = search needs

@@ -1,10 +1,10 @@
--- `values::weighing_of` meets its contract: all but one of the values are without their signs. Assumes nothing.
+-- `kinds::weighing_of` meets its contract: all but one of the values are without their signs. Assumes nothing.
 use mathlib.Core.Path.{_≡_}
 use borrow.Author.Needs.{needs}
 use mir.Facts.{toZ-ofZ}
 use Rattle.paper.specs.File.{plainAt, entryOf}
-use Rattle.values.proofs.weighing_of.Statement.{statement}
-use Rattle.values.proofs.weighing_of.Tie as tie
+use Rattle.kinds.proofs.weighing_of.Statement.{statement}
+use Rattle.kinds.proofs.weighing_of.Tie as tie
 
 array-copy-out-plain : tie.Need-array-copy-out-plain
 array-copy-out-plain c = search needs

@@ -1,4 +1,4 @@
--- `values::sheet_of` meets its contract: all but the arms are without their signs. Assumes nothing.
+-- `kinds::sheet_of` meets its contract: all but the arms are without their signs. Assumes nothing.
 use mathlib.Core.Path.{_≡_}
 use mathlib.Core.List.{List}
 use Prim.Native.Nat.{ℕ, _^_, _<_}
@@ -11,8 +11,8 @@ use mir.Facts.{toZ-ofZ}
 use Rattle.paper.specs.declared.Station.{Station}
 use Rattle.paper.specs.declared.Entry.the-variants as entry
 use Rattle.paper.specs.File.{signedAt, plainAt, stationAt, entryOf}
-use Rattle.values.proofs.sheet_of.Statement.{statement}
-use Rattle.values.proofs.sheet_of.Tie as tie
+use Rattle.kinds.proofs.sheet_of.Statement.{statement}
+use Rattle.kinds.proofs.sheet_of.Tie as tie
 
 -- what a list's values come to that were held in registers
 module _ (v : List ℤ) where
