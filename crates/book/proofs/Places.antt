@@ -15,7 +15,7 @@ use Rattle.laws.specs.Splits.{split, index-most, split-first, split-whole, part
 use Rattle.paper.specs.declared.Entry.{Entry}
 use Rattle.paper.specs.Placard.{feed}
 use Rattle.paper.specs.Refusals.{accepted, acceptedAfter}
-use Rattle.paper.specs.Journal.{undo, callOf, callNumber, acceptedCall, afterCall}
+use Rattle.paper.specs.Journal.{undo, callOf, callNumber, acceptedCall, afterBy}
 use Rattle.judge.specs.declared.Standing.{Standing}
 use Rattle.judge.specs.declared.Standing.the-variants.{Unweighed}
 use Rattle.judge.specs.Standing.{plainly, Sound, numberAt, after}
@@ -166,7 +166,7 @@ module _ {s : List ℕ} {at end then : ℕ} (l : LineAt s at end then) {log : Re
         ∙ ap (refused (i + 1)) (sym undo-number-is))
 
     pub undone : k .number ≡ 0 → (now : Replayed) → ReplayedAs (heldBy (k .log)) now → ReadTo s (now .log) (now .standing) then (i + 1)
-    unfolding afterCall
+    unfolding afterBy
     undone n now p =
         let z = sym undo-number-is ∙ n in
         let list : heldBy (k .log) ≡ acceptedCall es undo = ap (λ (x : Kept). heldBy (x .log)) a ∙ answered-list log undo ∙ rw (held, eq-eqb (callNumber es undo) 0 z) in

@@ -22,9 +22,13 @@ use Rattle.paper.specs.Journal.{Call, journal, numbers}
 use Rattle.record.specs.declared.Record.{Record}
 use Rattle.record.specs.declared.Kept.{Kept}
 use Rattle.record.specs.Held.{recordOf, heldBy}
+use Rattle.file.specs.Longest as file
+use Rattle.file.proofs.longest.Reads as file-longest
 use Rattle.file.proofs.write.Reads as write
 use Rattle.file.proofs.read.Reads as read
 use Rattle.file.proofs.RoundTrips.{accepts-files, accepts-only-files, read-then-written}
+use Rattle.plate.specs.Longest as plate
+use Rattle.plate.proofs.longest.Reads as plate-longest
 use Rattle.plate.proofs.placard.Reads as placard
 use Rattle.lent.specs.Lent.{numbersIn, journalIn}
 use Rattle.nodhulika.proofs.nodhulika_placard.Reads as library-placard
@@ -62,6 +66,13 @@ pub journal-record : {calls : List Call} {r : Record} {answers : List ℕ} → o
 journal-record = records.journal-record
 
 -- ---- files
+
+-- What `file::longest` and `plate::longest` answer: no file, and no placard, has more bytes, and one has just as many.
+pub longest-file : (n : ℕ) → file-longest.Post tt tt n tt → file.IsLongest n
+longest-file n h = h
+
+pub longest-placard : (n : ℕ) → plate-longest.Post tt tt n tt → plate.IsLongest n
+longest-placard n h = h
 
 -- A record that a list of calls gave, written into any buffer that holds it and read back from those bytes, is the same record.
 pub written-then-read : {calls : List Call} {r : Record} {answers : List ℕ} → on-record.Trace calls r answers
