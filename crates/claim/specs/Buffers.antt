@@ -19,7 +19,7 @@ use Rattle.paper.specs.Answers.{over}
 use Rattle.paper.specs.Journal as journal
 use Rattle.paper.specs.Journal.{Call, callNumber, acceptedCall, afterBy, journalBy, numbersBy, numbers}
 use Rattle.format.specs.Numbers.{length-bytes, number-back}
-use Rattle.format.specs.Files.{file-length, read-written, file-accepted}
+use Rattle.format.specs.Files.{file-length, read-written}
 use Rattle.judge.proofs.Accepted.{at-most-64}
 use Rattle.record.proofs.Following.{call-accepted}
 use Rattle.front.specs.Front.{fileIn, heldIn}

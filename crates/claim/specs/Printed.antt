@@ -1,6 +1,6 @@
 -- What a given placard prints: each line is that of its row and can be read in one way only, so what the laws of rows say holds
 -- of whatever is read off it. Assumes nothing.
-use mathlib.Core.Path.{_≡_, refl, sym, ap, _∙_}
+use mathlib.Core.Path.{_≡_, refl, ap, _∙_}
 use mathlib.Core.Bool.{true, false}
 use mathlib.Core.List.{List}
 use mathlib.Core.Option.{some}
@@ -13,7 +13,7 @@ use Rattle.paper.specs.declared.Row.the-variants.{Range, Blank}
 use Rattle.paper.specs.declared.Entry.{Entry}
 use Rattle.paper.specs.Record.{Balance, sheetOf}
 use Rattle.paper.specs.Rows.{row, rowCount, loads, rearOf, waterOf, isStep, keeps, breaksAt, inRange, misses, isBlank}
-use Rattle.paper.specs.Placard.{text, line, lineIn, RowFits, ReadAs}
+use Rattle.paper.specs.Placard.{text, lineIn, RowFits, ReadAs}
 use Rattle.paper.specs.Answers.{over}
 use Rattle.paper.specs.Refusals.{accepted}
 use Rattle.paper.proofs.Lists.{below-at}

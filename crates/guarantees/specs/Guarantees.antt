@@ -1,7 +1,9 @@
--- The guarantees, in README's order ("What is proved"): each stated in full, and proved by the theorem that it cites. The
--- hypotheses are lists of calls as they run and single calls, by the calls' own promises: `read.Post` is what the contract of
--- `file::read` promises of one call (its arguments, its answer, the arguments as it leaves them), and so with the others. What the
--- words mean is in crates/paper/specs, and for the logbook and the library in crates/language/specs, crates/book/specs,
+-- The guarantees, in README's order ("What is proved"): each stated in full, and proved by the theorem that it cites. That each
+-- call meets its own promise, README's first, is no theorem but what the checker says of each function.
+--
+-- The hypotheses are lists of calls as they run and single calls, by the calls' own promises: `read.Post` is what the contract
+-- of `file::read` promises of one call (its arguments, its answer, the arguments as it leaves them), and so with the others. What
+-- the words mean is in crates/paper/specs, and for the logbook and the library in crates/language/specs, crates/book/specs,
 -- crates/front/specs and crates/lent/specs; docs/ARCHITECTURE.md leads from the paper to each of them. Assumes nothing.
 use mathlib.Core.Path.{_≡_}
 use mathlib.Core.Bool.{true}

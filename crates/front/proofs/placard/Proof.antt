@@ -1,13 +1,11 @@
 -- `front::placard` meets its contract: what stands and the sheet in force are those of the list that the buffer holds.
 -- Assumes nothing.
 use borrow.Author.Needs.{needs}
-use mathlib.Core.Path.{_≡_, sym, ap, _∙_}
+use mathlib.Core.Path.{sym, _∙_}
 use mathlib.Core.List.{List}
 use Prim.Native.Nat.{ℕ}
 use native.Mathlib.Omega.{arith}
 use lib.ListN.{length}
-use Rattle.paper.specs.Record.{sheetOf}
-use Rattle.sheet.specs.InForce.{found}
 use Rattle.sheet.proofs.Lists.{sheet-accepted}
 use Rattle.judge.proofs.Judging.{grown}
 use Rattle.judge.proofs.Accepted.{at-most-64}
