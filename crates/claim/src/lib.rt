@@ -1,1 +1,2 @@
-// Demand 3 about every list of calls and a placard after it: theorems only, in proofs/. No code of its own.
+// Demand 3 about every list of calls and a placard after it, on a record and of the library to link: theorems only, in specs/.
+// No code of its own.
