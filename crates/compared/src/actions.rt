@@ -12,6 +12,7 @@ use nodhulika::nodhulika_sheet;
 use nodhulika::nodhulika_undo;
 use nodhulika::nodhulika_weigh;
 use paper::Entry;
+use script::texts::byte_at;
 use script::texts::spelled;
 use words::number_at;
 
@@ -170,27 +171,34 @@ fn call(line: &[u8], buffer: &mut [u8]) {
     }
 }
 
+// `Check` or `Centre`.
+fn asked(second: u8, buffer: &[u8]) {
+    if second == b'h' {
+        check(buffer);
+    } else {
+        centre(buffer);
+    }
+}
+
+// The action of a line by its first letters.
+fn done(line: &[u8], buffer: &mut [u8]) {
+    let first = byte_at(line, 0);
+    match first {
+        b'R' => answer(read(line, buffer)),
+        b'P' => placard(line, buffer),
+        b'C' => asked(byte_at(line, 1), buffer),
+        _ => call(line, buffer),
+    }
+}
+
 // The action of a line on the first `room` bytes. The answer is how many bytes the next one gets.
 pub fn act(line: &[u8], buffer: &mut [u8], room: usize) -> usize {
     if line.len() < 2 {
         return room;
     }
-    let first = line[0];
-    let second = line[1];
-    if first == b'F' {
+    if line[0] == b'F' {
         return fresh(line, buffer);
     }
-    let part = lent(buffer, room);
-    if first == b'R' {
-        answer(read(line, part));
-    } else if first == b'P' {
-        placard(line, part);
-    } else if first == b'C' && second == b'h' {
-        check(part);
-    } else if first == b'C' {
-        centre(part);
-    } else {
-        call(line, part);
-    }
+    done(line, lent(buffer, room));
     room
 }

@@ -14,8 +14,10 @@ fn fresh() -> Kept {
     Kept { number: 0, log }
 }
 
-// The call of a letter, with the fields that stand behind it.
-fn called(r: Record, letter: u8, other: &[u8]) -> Kept {
+// A call: its letter, and the fields that stand behind it.
+fn called(r: Record, call: &[u8]) -> Kept {
+    let letter = byte_at(call, 0);
+    let other = between(call, 1, call.len());
     match letter {
         b'w' => r.weigh(weighing(b"m1 p300000 q30000 a10000 b500000 n100000", other)),
         b'v' => r.weigh(weighing(b"m3 p355 q90 a50 b13350 n0", other)),
@@ -31,11 +33,6 @@ fn called(r: Record, letter: u8, other: &[u8]) -> Kept {
     }
 }
 
-// A call: its letter, and the fields that differ.
-fn made(r: Record, call: &[u8]) -> Kept {
-    called(r, byte_at(call, 0), between(call, 1, call.len()))
-}
-
 // Calls one after the other; a comma or a line feed ends each. The answer is the last one's.
 pub fn played(r: Record, calls: &[u8]) -> Kept {
     let mut k = Kept { number: 0, log: r };
@@ -44,7 +41,7 @@ pub fn played(r: Record, calls: &[u8]) -> Kept {
     while i < calls.len() {
         let x = calls[i];
         if x == b',' || x == b'\n' {
-            k = made(k.log, between(calls, from, i));
+            k = called(k.log, between(calls, from, i));
             from = i + 1;
         }
         i += 1;

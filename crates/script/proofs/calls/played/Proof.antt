@@ -21,8 +21,8 @@ shared-slice-read-x c = omega arith
 between-requires : tie.Need-between-requires Inv-loop μ-loop
 between-requires c κs = search needs
 
-made-requires : tie.Need-made-requires Inv-loop μ-loop
-made-requires c κs = search needs
+called-requires : tie.Need-called-requires Inv-loop μ-loop
+called-requires c κs = search needs
 
 add-from : tie.Need-add-from Inv-loop μ-loop
 add-from c = omega arith
@@ -48,7 +48,7 @@ played-spec =
     loop-holds
     shared-slice-read-x
     between-requires
-    made-requires
+    called-requires
     add-from
     add-i
     loop-less
