@@ -1,10 +1,8 @@
 // The library for C and Rust: functions on numbers and byte slices. A record is lent as its file at the front of a buffer.
 // Each function answers by the paper's number of refusal, 0 where there is none; include/nodhulika.h is its header.
-use paper::Change;
-use paper::Entry;
-use paper::Sheet;
-use paper::Station;
-use paper::Weighing;
+use arguments::change_of;
+use arguments::sheet_of;
+use arguments::weighing_of;
 use words::long_of;
 ghost use mathlib.Core.Path.{_≡_};
 ghost use mathlib.Core.List.{[], _++_};
@@ -49,7 +47,7 @@ pub extern "C" fn nodhulika_weigh(
 ) -> u64
     ensures { λ r. ⌜ (r, now (buffer .exit)) ≡ lentCall (journal.weigh (record { m = m; p = p; q = q; a = a; b = b; n = n })) (now (buffer .entry)) ⌝ }
 {
-    lent::add(buffer, Entry::Weighing(Weighing { m, p, q, a, b, n }))
+    lent::add(buffer, weighing_of(m, p, q, a, b, n))
 }
 
 // A data sheet.
@@ -74,33 +72,24 @@ pub extern "C" fn nodhulika_sheet(
 ) -> u64
     ensures { λ r. ⌜ (r, now (buffer .exit)) ≡ lentCall (journal.install (record { fwd = fwd; aft = aft; dry = dry; wet = wet; nlp = nlp; front = record { arm = «front_arm»; most = «front_most»; step = «front_step» }; least = «front_least»; rear = record { arm = «rear_arm»; most = «rear_most»; step = «rear_step» }; water = record { arm = «water_arm»; most = «water_most»; step = «water_step» } })) (now (buffer .entry)) ⌝ }
 {
-    let front = Station {
-        arm: front_arm,
-        most: front_most,
-        step: front_step,
-    };
-    let rear = Station {
-        arm: rear_arm,
-        most: rear_most,
-        step: rear_step,
-    };
-    let water = Station {
-        arm: water_arm,
-        most: water_most,
-        step: water_step,
-    };
-    let s = Sheet {
+    let s = sheet_of(
         fwd,
         aft,
         dry,
         wet,
         nlp,
-        front,
-        least: front_least,
-        rear,
-        water,
-    };
-    lent::add(buffer, Entry::Sheet(s))
+        front_arm,
+        front_least,
+        front_most,
+        front_step,
+        rear_arm,
+        rear_most,
+        rear_step,
+        water_arm,
+        water_most,
+        water_step,
+    );
+    lent::add(buffer, s)
 }
 
 // A change.
@@ -108,7 +97,7 @@ pub extern "C" fn nodhulika_sheet(
 pub extern "C" fn nodhulika_change(buffer: &mut [u8], c: i64, arm: i64, flag: u64) -> u64
     ensures { λ r. ⌜ (r, now (buffer .exit)) ≡ lentCall (journal.change (record { c = c; arm = arm; flag = flag })) (now (buffer .entry)) ⌝ }
 {
-    lent::add(buffer, Entry::Change(Change { c, arm, flag }))
+    lent::add(buffer, change_of(c, arm, flag))
 }
 
 // Taking back.

@@ -1,9 +1,12 @@
--- `nodhulika::nodhulika_weigh` meets its contract: it is what `lent::add` says of the weighing. Assumes nothing.
+-- `nodhulika::nodhulika_weigh` meets its contract: it is what `lent::add` says of the weighing that the numbers make. Assumes nothing.
 use borrow.Author.Needs.{needs}
 use mir.Facts.{toZ-ofZ}
 use Rattle.paper.specs.Journal.{callOf}
 use Rattle.nodhulika.proofs.nodhulika_weigh.Statement.{statement}
 use Rattle.nodhulika.proofs.nodhulika_weigh.Tie as tie
+
+weighing-of-requires : tie.Need-weighing-of-requires
+weighing-of-requires c κs = search needs
 
 add-requires : tie.Need-add-requires
 add-requires c κs = search needs
@@ -14,8 +17,10 @@ same-length c = search needs
 returns : tie.Need-returns
 unfolding callOf
 returns c =
-    let b = c .before .before .before .before .before in
-    rw (toZ-ofZ (b .fits .a)) at (c .before .before .add .ensures)
+    let e = c .before .before .before in
+    let b = e .before .before .before in
+    let made = rw (toZ-ofZ (b .fits .a)) at (e .weighing-of .ensures) in
+    rw made at (c .before .before .add .ensures)
 
 pub nodhulika-weigh-spec : {M : Type 1} → statement M
-nodhulika-weigh-spec = tie.close (tie.spec add-requires same-length returns)
+nodhulika-weigh-spec = tie.close (tie.spec weighing-of-requires add-requires same-length returns)
