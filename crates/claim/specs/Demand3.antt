@@ -61,8 +61,8 @@ pub record Demand3 (numbers : List ℕ) (es : List Entry) (answers lent : List �
   pub buffer : Given es answer left (λ s b. left ≡ over (text s b) lent)
   -- its i-th 36 bytes are the line of the i-th row's loads and row, and can be read as them
   pub each-line : EachLine es answer left (λ s b r w bytes. ReadAs bytes r w (row s b r w))
-  -- whatever is read off a line: the loads are the row's
-  pub its-loads : EachReading es answer left (λ s b r w rear water x. (rear ≡ r) × (water ≡ w))
+  -- and in no other way: whatever is read off a line are the row's loads and the row
+  pub only-reading : EachReading es answer left (λ s b r w rear water x. (rear ≡ r) × (water ≡ w) × (x ≡ row s b r w))
   -- no step in the range that is read breaks a limit with any part of the row's water aboard
   pub none-breaks : EachReading es answer left (λ s b r w rear water x. (p v : ℕ) → isStep s p ≡ true → inRange p x ≡ true → v ≤ w → breaksAt s b r p v ≡ false)
   -- it misses no step that keeps every limit with every part aboard
@@ -93,7 +93,7 @@ demanded numbers es ok answers lent a left n first second =
           (ap (λ (x : Placard). x .bytes) whole, ap (λ (x : Placard). x .rows) whole, ap (λ (x : Placard). x .blank) whole);
       buffer = λ s b e w z. says .whole s b e w z .1;
       each-line = line es ok lent a left says;
-      its-loads = λ s b e w z i h rear water x l. let same = read es ok lent a left says s b e w z i h rear water x l in (same .0, same .1);
+      only-reading = read es ok lent a left says;
       none-breaks = λ s b e w z i h rear water x l. printed.none-breaks s b (rearOf s i) (waterOf s i) x (read es ok lent a left says s b e w z i h rear water x l .2);
       none-missed = λ s b e w z i h rear water x l. printed.none-missed s b (rearOf s i) (waterOf s i) x (read es ok lent a left says s b e w z i h rear water x l .2);
       blank-exactly = λ s b e w z i h rear water x l. printed.blank-exactly s b (rearOf s i) (waterOf s i) x (read es ok lent a left says s b e w z i h rear water x l .2);
