@@ -19,10 +19,11 @@ use Rattle.paper.specs.Answers.{over}
 use Rattle.paper.specs.Journal as journal
 use Rattle.paper.specs.Journal.{Call, callNumber, acceptedCall, afterBy, journalBy, numbersBy, numbers}
 use Rattle.format.specs.Numbers.{length-bytes, number-back}
-use Rattle.format.specs.Files.{file-length, read-written}
+use Rattle.format.specs.Files.{read-written}
 use Rattle.judge.proofs.Accepted.{at-most-64}
 use Rattle.record.proofs.Following.{call-accepted}
 use Rattle.front.specs.Front.{fileIn, heldIn}
+use Rattle.file.proofs.Lengths.{longest-is}
 use Rattle.lent.specs.Lent.{lentFile, lentBy, lentCall, lentRead, numberIn, journalIn, numbersIn}
 use Rattle.front.proofs.Fronts.{held-accepted}
 use Rattle.lent.proofs.Answers.{file-put, file-short}
@@ -33,7 +34,7 @@ use Rattle.lent.proofs.Answers.{file-put, file-short}
 module _ (es : List Entry) (s : List ℕ) (a : accepted es ≡ true) where
   -- the longest file has 3,910 bytes
   few : length (fileBytes es) ≤ 3910
-  few = omega (arith, file-length es, at-most-64 es a)
+  few = longest-is .most es a
 
   front-is : fileIn (over (fileBytes es) s) ≡ fileBytes es
   unfolding fileIn over fileBytes
