@@ -4,22 +4,22 @@ use lib.IntN.{pos, _-ℤ_}
 use Rattle.paper.specs.Record as paper
 use Rattle.balance.specs.declared.Balance.{Balance}
 
--- two products of a weight and an arm: what an entry adds to a moment at most
-abbrev pub twoProducts : ℕ
-twoProducts = 32000000000000
+-- what an entry adds to a side of the moment at most
+abbrev pub anEntry : ℕ
+anEntry = 64000000000000
 
 -- M is what turns aft less what turns forward
 abbrev pub plain : Balance → paper.Balance
 plain b = record { total = pos (b .total); moment = pos (b .aft) -ℤ pos (b .fore); nonLifting = pos (b .nonlifting) }
 
--- G is 1..2,000,000 and n is 0..G
+-- G is 2..4,000,000 half grams and n is 0..G
 pub record Ranged (b : Balance) : Type 0 where
-  pub least : 1 ≤ b .total
-  pub most : b .total ≤ 2000000
+  pub least : 2 ≤ b .total
+  pub most : b .total ≤ 4000000
   pub part : b .nonlifting ≤ b .total
 
 -- the balance of k accepted entries
 pub record Bounded (k : ℕ) (b : Balance) : Type 0 where
   pub ranged : Ranged b
-  pub aft : b .aft ≤ twoProducts * k
-  pub fore : b .fore ≤ twoProducts * k
+  pub aft : b .aft ≤ anEntry * k
+  pub fore : b .fore ≤ anEntry * k

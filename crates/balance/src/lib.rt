@@ -3,7 +3,7 @@ ghost use mathlib.Core.Path.{_≡_};
 ghost use Rattle.paper.specs.Record as paper;
 ghost use Rattle.balance.specs.Balance.{plain, Bounded};
 
-// G, M and n with no sign: M is what turns aft less what turns forward.
+// G, M and n in half grams, with no sign: M is what turns aft less what turns forward.
 pub struct Balance {
     pub total: u64,
     pub aft: u64,
@@ -13,7 +13,7 @@ pub struct Balance {
 
 // M.
 pub fn moment(b: Balance) -> i64
-    requires { ⌜ Bounded 4096 b ⌝ }
+    requires { ⌜ Bounded 1024 b ⌝ }
     ensures { λ r. ⌜ r ≡ plain b .moment ⌝ }
 {
     laws::signed_of(b.aft, b.fore)
@@ -21,7 +21,7 @@ pub fn moment(b: Balance) -> i64
 
 // The empty centre of gravity: M/G to the nearest unit, halves towards the tail.
 pub fn centre(b: Balance) -> i64
-    requires { ⌜ Bounded 4096 b ⌝ }
+    requires { ⌜ Bounded 1024 b ⌝ }
     ensures { λ r. ⌜ r ≡ paper.centreOf (plain b) ⌝ }
 {
     let total = b.total;

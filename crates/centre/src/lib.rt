@@ -9,7 +9,7 @@ ghost use Rattle.judge.specs.Standing.{plainly, Sound};
 
 // Total, moment and empty centre of gravity of what stands: 7 before a weighing.
 pub fn answer(standing: Standing) -> CentreOfGravity
-    requires { ⌜ Sound 4096 standing ⌝ }
+    requires { ⌜ Sound 1024 standing ⌝ }
     ensures { λ r. ⌜ ((es : List _) → plainly standing ≡ balanceOf es → r ≡ centreAnswer es) ⌝ }
 {
     let Standing::Weighed(b) = standing else {

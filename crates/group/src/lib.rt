@@ -50,7 +50,7 @@ fn put_row(
 
 // The lines of the rows beside the j-th rear load, which have their limits in common.
 pub fn put_group(s: Sheet, b: Balance, j: usize, waters: usize, out: &mut [u8]) -> usize
-    requires { ⌜ (firstNumber (sheetFaults s) ≡ 0) × Bounded 4096 b × (waters ≡ Numbered·waters s) × (j < rears s) × (lineLength * rowCount s ≤ length (now out)) ⌝ }
+    requires { ⌜ (firstNumber (sheetFaults s) ≡ 0) × Bounded 1024 b × (waters ≡ Numbered·waters s) × (j < rears s) × (lineLength * rowCount s ≤ length (now out)) ⌝ }
     ensures { λ n. ⌜ (n ≤ waters) × (n + blanksTo s (plain b) (j * waters) ≡ blanksTo s (plain b) (j * waters + waters)) × (length (now (out .exit)) ≡ length (now (out .entry))) × ((lent : List ℕ) → length lent ≡ length (now (out .entry)) → now (out .entry) ≡ written lent 0 (linesTo s (plain b) (j * waters)) → now (out .exit) ≡ written lent 0 (linesTo s (plain b) (j * waters + waters))) ⌝ }
 {
     let rear = j as u64 * s.rear.step;

@@ -48,7 +48,7 @@ fn judge_sheet(standing: Standing, s: Sheet) -> Judged
 
 // A change, behind 9.
 fn judge_change(standing: Standing, x: Change) -> Judged
-    requires { ⌜ Sound 4096 standing ⌝ }
+    requires { ⌜ Sound 1024 standing ⌝ }
     ensures { λ r. ⌜ ((k : ℕ) → Sound k standing → Says (firstNumber (changeFaults (plainly standing) x)) (Option·map (λ b. paper.changed b x) (plainly standing)) (k + 1) r) ⌝ }
 {
     let Standing::Weighed(b) = standing else {
@@ -78,7 +78,7 @@ pub fn judge(count: usize, standing: Standing, e: Entry) -> Judged
 
 // The number of a change, behind 9.
 fn change_number(standing: Standing, x: Change) -> u64
-    requires { ⌜ Sound 4096 standing ⌝ }
+    requires { ⌜ Sound 1024 standing ⌝ }
     ensures { λ n. ⌜ n ≡ firstNumber (changeFaults (plainly standing) x) ⌝ }
 {
     let Standing::Weighed(b) = standing else {

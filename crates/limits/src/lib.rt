@@ -141,7 +141,7 @@ fn arms_of(s: Sheet) -> Arms
 
 // The lines in the paper's order: weight without water and with it, non-lifting weight, FWD, and the safe aft limit.
 pub fn limits(s: Sheet, b: Balance, rear: u64) -> [HalfPlane; LINES]
-    requires { ⌜ (firstNumber (sheetFaults s) ≡ 0) × Bounded 4096 b × (rear ≤ 500000) ⌝ }
+    requires { ⌜ (firstNumber (sheetFaults s) ≡ 0) × Bounded 1024 b × (rear ≤ 500000) ⌝ }
     ensures { λ ls. ⌜ ((p v : ℕ) → keepsAt s (plain b) rear p v ≡ allHold ls p v) × Each Small ls ⌝ }
 {
     let arms = arms_of(s);

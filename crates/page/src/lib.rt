@@ -24,7 +24,7 @@ ghost use Rattle.judge.specs.Standing.{plainly, Sound};
 
 // A line for each row, and how many of them are blank.
 fn put_rows(s: Sheet, b: Balance, out: &mut [u8]) -> usize
-    requires { ⌜ (firstNumber (sheetFaults s) ≡ 0) × Bounded 4096 b × (lineLength * rowCount s ≤ length (now out)) ⌝ }
+    requires { ⌜ (firstNumber (sheetFaults s) ≡ 0) × Bounded 1024 b × (lineLength * rowCount s ≤ length (now out)) ⌝ }
     ensures { λ n. ⌜ (n ≡ blankCount s (plain b)) × (now (out .exit) ≡ written (now (out .entry)) 0 (text s (plain b))) ⌝ }
 {
     let rears = sheet::loads(s.rear) as usize;
@@ -61,7 +61,7 @@ fn refused(number: u64) -> Placard
 // The placard of what stands and the sheet in force: 7 before a weighing, 8 without a sheet, 11 where the buffer is too
 // short, and then no byte of it changes.
 pub fn answer(standing: Standing, sheet: InForce, out: &mut [u8]) -> Placard
-    requires { ⌜ Sound 4096 standing × ((s : Sheet) → found sheet ≡ some s → firstNumber (sheetFaults s) ≡ 0) ⌝ }
+    requires { ⌜ Sound 1024 standing × ((s : Sheet) → found sheet ≡ some s → firstNumber (sheetFaults s) ≡ 0) ⌝ }
     ensures { λ a. ⌜ ((es : List Entry) → plainly standing ≡ balanceOf es → found sheet ≡ sheetOf es → (a ≡ placardAnswer es (now (out .entry)) .0) × (now (out .exit) ≡ placardAnswer es (now (out .entry)) .1)) ⌝ }
 {
     let Standing::Weighed(b) = standing else {

@@ -23,7 +23,7 @@ over xs buffer = xs ++ drop (length xs) buffer
 
 -- ---- centre of gravity
 
--- total, moment and empty centre of gravity (G is 1 or more in every accepted list, so its size is G)
+-- total and moment, in half grams, and empty centre of gravity (G is 2 or more in every accepted list, so its size is G)
 unfoldable pub centreGiven : Balance → CentreOfGravity
 centreGiven b = record { number = 0; total = natAbs (b .total); moment = b .moment; centre = centreOf b }
 

@@ -1,6 +1,6 @@
 -- "The file": the bytes of a list of entries, and the list of entries that some bytes are laid out as.
 -- One table, `layoutOf`, says how each kind of entry is laid out; writing and reading both go by it.
-use mathlib.Core.Bool.{Bool, true, false, cond, _&&_}
+use mathlib.Core.Bool.{Bool, true, false, cond, _&&_, _||_}
 use mathlib.Core.List.{List, [], _∷_, _++_, map}
 use mathlib.Core.Option.{Option, none, some, Option·map, bind}
 use Prim.Native.Nat.{ℕ, zero, suc, _+_, _*_, _-_, _/_, _%_, _^_}
@@ -12,6 +12,7 @@ use Rattle.paper.specs.declared.Station.{Station}
 use Rattle.paper.specs.declared.Weighing.{Weighing}
 use Rattle.paper.specs.declared.Sheet.{Sheet}
 use Rattle.paper.specs.declared.Change.{Change}
+use Rattle.paper.specs.declared.Paired.{Paired}
 use Rattle.paper.specs.declared.Entry.{Entry}
 use Rattle.paper.specs.declared.Entry.the-variants as entry
 use Rattle.paper.specs.Rows.{joined}
@@ -58,7 +59,7 @@ abbrev pub signedWord : Field
 signedWord = record { width = 4; signed = true }
 
 -- the table: 1 weighing (m; p, q, a, b, n), 2 sheet (FWD, AFT, DRY, WET, NLP; front arm, least, greatest, step; rear arm,
--- greatest, step; water arm, capacity, step), 3 change (c, arm; flag)
+-- greatest, step; water arm, capacity, step), 3 change (c, arm; flag), 4 paired weighing (m; p, q, p', q', a, b, n)
 unfoldable pub layoutOf : ℕ → Option (List Field)
 layoutOf k =
     cond (eqb k 1) (some (byte ∷ word ∷ word ∷ signedWord ∷ word ∷ word ∷ []))
@@ -66,13 +67,15 @@ layoutOf k =
     (some (
     signedWord ∷ signedWord ∷ word ∷ word ∷ word ∷ signedWord ∷ word ∷ word ∷ word ∷ signedWord ∷ word ∷ word ∷ signedWord ∷ word ∷ word ∷ []
     ))
-    (cond (eqb k 3) (some (signedWord ∷ signedWord ∷ byte ∷ [])) none))
+    (cond (eqb k 3) (some (signedWord ∷ signedWord ∷ byte ∷ []))
+    (cond (eqb k 4) (some (byte ∷ word ∷ word ∷ word ∷ word ∷ signedWord ∷ word ∷ word ∷ [])) none)))
 
 -- an entry's kind, and its values in the table's order
 abbrev pub kindOf : Entry → ℕ
 kindOf (entry.Weighing w) = 1
 kindOf (entry.Sheet s) = 2
 kindOf (entry.Change x) = 3
+kindOf (entry.Paired x) = 4
 
 abbrev pub valuesOf : Entry → List ℤ
 valuesOf (entry.Weighing w) =
@@ -80,6 +83,8 @@ valuesOf (entry.Weighing w) =
 valuesOf (entry.Sheet s) =
     s .fwd ∷ s .aft ∷ pos (s .dry) ∷ pos (s .wet) ∷ pos (s .nlp) ∷ s .front .arm ∷ pos (s .least) ∷ pos (s .front .most) ∷ pos (s .front .step) ∷ s .rear .arm ∷ pos (s .rear .most) ∷ pos (s .rear .step) ∷ s .water .arm ∷ pos (s .water .most) ∷ pos (s .water .step) ∷ []
 valuesOf (entry.Change x) = x .c ∷ x .arm ∷ pos (x .flag) ∷ []
+valuesOf (entry.Paired x) =
+    pos (x .m) ∷ pos (x .p) ∷ pos (x .q) ∷ pos (x .p2) ∷ pos (x .q2) ∷ x .a ∷ pos (x .b) ∷ pos (x .n) ∷ []
 
 -- the value at a place, signed and unsigned
 abbrev pub signedAt : List ℤ → ℕ → ℤ
@@ -110,7 +115,19 @@ entryOf k vs =
       rear = stationAt vs 9 10 11;
       water = stationAt vs 12 13 14;
     }))
-    (entry.Change (record { c = signedAt vs 0; arm = signedAt vs 1; flag = plainAt vs 2 })))
+    (cond (eqb k 3)
+    (entry.Change (record { c = signedAt vs 0; arm = signedAt vs 1; flag = plainAt vs 2 }))
+    (entry.Paired
+    (record {
+      m = plainAt vs 0;
+      p = plainAt vs 1;
+      q = plainAt vs 2;
+      p2 = plainAt vs 3;
+      q2 = plainAt vs 4;
+      a = signedAt vs 5;
+      b = plainAt vs 6;
+      n = plainAt vs 7;
+    }))))
 
 -- ---- writing
 
@@ -128,17 +145,21 @@ theFields (some fs) = fs
 unfoldable pub entryBytes : Entry → List ℕ
 entryBytes e = kindOf e ∷ fieldsBytes (theFields (layoutOf (kindOf e))) (valuesOf e)
 
--- the version of the file
+-- what follows the length, in a version: the version, the count of entries, and the entries
+unfoldable pub bodyAs : ℕ → List Entry → List ℕ
+bodyAs v es = v ∷ bytesOf 1 (length es) ++ joined (map entryBytes es)
+
+-- the file of a list in a version: four bytes for the length of all that follows, and that
+unfoldable pub fileAs : ℕ → List Entry → List ℕ
+fileAs v es = bytesOf 4 (length (bodyAs v es)) ++ bodyAs v es
+
+-- the version that is written
 abbrev pub version : ℕ
-version = 1
+version = 2
 
--- what follows the length: the version, the count of entries, and the entries
-unfoldable pub bodyBytes : List Entry → List ℕ
-bodyBytes es = version ∷ bytesOf 1 (length es) ++ joined (map entryBytes es)
-
--- the file of a list: four bytes for the length of all that follows, and that
-unfoldable pub fileBytes : List Entry → List ℕ
-fileBytes es = bytesOf 4 (length (bodyBytes es)) ++ bodyBytes es
+-- the file of a list
+abbrev pub fileBytes : List Entry → List ℕ
+fileBytes es = fileAs version es
 
 -- ---- reading
 
@@ -169,11 +190,28 @@ takeEntries zero (x ∷ xs) = none
 takeEntries (suc n) xs =
     bind (takeEntry xs) (λ (y : Entry × List ℕ). Option·map (λ (es : List Entry). y .0 ∷ es) (takeEntries n (y .1)))
 
--- what follows the length: the version, and a count of just the entries that are there
+-- the versions that are read
+unfoldable pub isVersion : ℕ → Bool
+isVersion v = eqb v 1 || eqb v 2
+
+-- the last kind of entry that a version has: paired weighings came with version 2
+unfoldable pub lastKind : ℕ → ℕ
+lastKind v = cond (eqb v 1) 3 4
+
+-- each entry is of a kind up to k
+unfoldable pub kindsTo : ℕ → List Entry → Bool
+kindsTo k [] = true
+kindsTo k (e ∷ es) = leb (kindOf e) k && kindsTo k es
+
+abbrev pub onlyKinds : ℕ → Option (List Entry) → Option (List Entry)
+onlyKinds k none = none
+onlyKinds k (some es) = cond (kindsTo k es) (some es) none
+
+-- what follows the length: a version, and a count of just the entries that are there, of that version's kinds
 unfoldable pub takeBody : List ℕ → Option (List Entry)
 takeBody [] = none
 takeBody (v ∷ []) = none
-takeBody (v ∷ n ∷ xs) = cond (eqb v version) (takeEntries n xs) none
+takeBody (v ∷ n ∷ xs) = cond (isVersion v) (onlyKinds (lastKind v) (takeEntries n xs)) none
 
 -- the list of entries that some numbers are laid out as: each is a byte, the first four spell the length of just what
 -- follows, and that is a body

@@ -5,16 +5,18 @@ use mathlib.Core.Option.{Option, none, some}
 use Prim.Native.Nat.{ℕ}
 use lib.Dec.{eqb}
 use Rattle.paper.specs.declared.Weighing.{Weighing}
+use Rattle.paper.specs.declared.Paired.{Paired}
 use Rattle.paper.specs.declared.Sheet.{Sheet}
 use Rattle.paper.specs.declared.Change.{Change}
 use Rattle.paper.specs.declared.Entry.{Entry}
 use Rattle.paper.specs.declared.Entry.the-variants as entry
-use Rattle.paper.specs.Record.{lastWeighing, sheetOf}
+use Rattle.paper.specs.Record.{alike, paired, lastWeighing, sheetOf}
 use Rattle.paper.specs.Refusals.{isNone, weighingNumber, sheetNumber, changeNumber, undoNumber, readingNumber, fileOf}
 
 -- a call that can change the record, with its arguments: the bytes of a file are reading back's
 pub data Call : Type 0 where
   weigh : Weighing → Call
+  pair : Paired → Call
   install : Sheet → Call
   change : Change → Call
   undo : Call
@@ -25,10 +27,12 @@ unfoldable pub callOf : Entry → Call
 callOf (entry.Weighing w) = weigh w
 callOf (entry.Sheet s) = install s
 callOf (entry.Change x) = change x
+callOf (entry.Paired x) = pair x
 
 -- the number that a call gets on a journal, 0 where it is accepted
 unfoldable pub callNumber : List Entry → Call → ℕ
-callNumber es (weigh w) = weighingNumber es w
+callNumber es (weigh w) = weighingNumber es (alike w)
+callNumber es (pair x) = weighingNumber es (paired x)
 callNumber es (install s) = sheetNumber es s
 callNumber es (change x) = changeNumber es x
 callNumber es undo = undoNumber es
@@ -54,6 +58,7 @@ sheetStands es = not (isNone (sheetOf es))
 -- the journal after an accepted call: the entry at its end, or without its last, or the file's entries in its place
 unfoldable pub acceptedCall : List Entry → Call → List Entry
 acceptedCall es (weigh w) = es ++ entry.Weighing w ∷ []
+acceptedCall es (pair x) = es ++ entry.Paired x ∷ []
 acceptedCall es (install s) = es ++ entry.Sheet s ∷ []
 acceptedCall es (change x) = es ++ entry.Change x ∷ []
 acceptedCall es undo = withoutLast es

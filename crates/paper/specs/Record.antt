@@ -1,6 +1,6 @@
 -- "The record": what a list of entries says. G, M and n, the empty centre of gravity and the sheet in force, all of the
 -- list alone, its first entry first.
-use mathlib.Core.Bool.{cond}
+use mathlib.Core.Bool.{Bool, cond}
 use mathlib.Core.List.{List, [], _∷_}
 use mathlib.Core.Option.{Option, none, some, Option·map, orElse}
 use Prim.Native.Nat.{ℕ, _*_}
@@ -8,12 +8,14 @@ use lib.Dec.{eqb}
 use lib.IntN.{ℤ, pos, natAbs, _+ℤ_, _-ℤ_, _*ℤ_}
 use lib.Signed.{shrZ}
 use Rattle.paper.specs.declared.Weighing.{Weighing}
+use Rattle.paper.specs.declared.Paired.{Paired}
 use Rattle.paper.specs.declared.Sheet.{Sheet}
 use Rattle.paper.specs.declared.Change.{Change}
 use Rattle.paper.specs.declared.Entry.{Entry}
 use Rattle.paper.specs.declared.Entry.the-variants as entry
+use Rattle.paper.specs.Units.{halfGrams}
 
--- the paper's G, M and n
+-- the paper's G, M and n, in half grams
 pub record Balance : Type 0 where
   pub total : ℤ
   pub moment : ℤ
@@ -22,6 +24,8 @@ pub record Balance : Type 0 where
 -- one of four by the method of a weighing; a method beyond 4 goes with 4, and no call accepts it
 abbrev pub byMethod : {A : Type 0} → ℕ → A → A → A → A → A
 byMethod m first second third fourth = cond (eqb m 1) first (cond (eqb m 2) second (cond (eqb m 3) third fourth))
+
+-- ---- one reading, in grams
 
 -- G of a weighing: p is the total in methods 1 and 2; two slings add up; the lift is taken from the platform's reading
 unfoldable pub totalOf : Weighing → ℤ
@@ -36,18 +40,46 @@ momentOf w =
     (pos (w .q) *ℤ pos (w .b) -ℤ totalOf w *ℤ w .a)
     (totalOf w *ℤ w .a -ℤ pos (w .q) *ℤ pos (w .b))
 
--- what a weighing says
-unfoldable pub weighed : Weighing → Balance
-weighed w = record { total = totalOf w; moment = momentOf w; nonLifting = pos (w .n) }
+-- ---- what was weighed, in half grams
 
--- what a change makes of it: c more of G, c·arm more of M, and c more of n where the flag is 1
-unfoldable pub changed : Balance → Change → Balance
-changed b x =
+-- the two readings of a glider that count together
+pub record Readings : Type 0 where
+  pub first : Weighing
+  pub second : Weighing
+
+-- a plain weighing counts as the pair of itself with itself
+abbrev pub alike : Weighing → Readings
+alike w = record { first = w; second = w }
+
+-- a paired weighing is two plain ones with the same m, a, b and n: one with p and q, one with p' and q'
+abbrev pub paired : Paired → Readings
+paired x =
     record {
-      total = b .total +ℤ x .c;
-      moment = b .moment +ℤ x .c *ℤ x .arm;
-      nonLifting = b .nonLifting +ℤ cond (eqb (x .flag) 1) (x .c) (pos 0);
+      first = record { m = x .m; p = x .p; q = x .q; a = x .a; b = x .b; n = x .n };
+      second = record { m = x .m; p = x .p2; q = x .q2; a = x .a; b = x .b; n = x .n };
     }
+
+-- what two readings say: G, M and n are the sums over both
+unfoldable pub weighed : Readings → Balance
+weighed x =
+    record {
+      total = totalOf (x .first) +ℤ totalOf (x .second);
+      moment = momentOf (x .first) +ℤ momentOf (x .second);
+      nonLifting = pos (x .first .n) +ℤ pos (x .second .n);
+    }
+
+-- a balance with c grams more at an arm; whether they are a non-lifting part
+unfoldable pub with : Balance → ℤ → ℤ → Bool → Balance
+with b c arm part =
+    record {
+      total = b .total +ℤ halfGrams c;
+      moment = b .moment +ℤ halfGrams c *ℤ arm;
+      nonLifting = b .nonLifting +ℤ cond part (halfGrams c) (pos 0);
+    }
+
+-- what a change makes of it: c more at its arm, a non-lifting part where the flag is 1
+unfoldable pub changed : Balance → Change → Balance
+changed b x = with b (x .c) (x .arm) (eqb (x .flag) 1)
 
 -- what a run of changes makes of it
 unfoldable pub changedBy : Balance → List Change → Balance
@@ -60,21 +92,23 @@ changesOf [] = []
 changesOf (entry.Weighing w ∷ es) = changesOf es
 changesOf (entry.Sheet s ∷ es) = changesOf es
 changesOf (entry.Change x ∷ es) = x ∷ changesOf es
+changesOf (entry.Paired x ∷ es) = changesOf es
 
--- a weighing with the changes behind it
-abbrev pub opened : Entry → List Change → Option (Weighing × List Change)
-opened (entry.Weighing w) xs = some (w, xs)
+-- a weighing, plain or paired, with the changes behind it
+abbrev pub opened : Entry → List Change → Option (Readings × List Change)
+opened (entry.Weighing w) xs = some (alike w, xs)
 opened (entry.Sheet s) xs = none
 opened (entry.Change x) xs = none
+opened (entry.Paired x) xs = some (paired x, xs)
 
 -- the last weighing of a list with the changes behind it, none where the list has no weighing
-unfoldable pub lastWeighing : List Entry → Option (Weighing × List Change)
+unfoldable pub lastWeighing : List Entry → Option (Readings × List Change)
 lastWeighing [] = none
 lastWeighing (e ∷ es) = orElse (lastWeighing es) (opened e (changesOf es))
 
 -- G, M and n of a list: those of its last weighing and the changes behind it
 unfoldable pub balanceOf : List Entry → Option Balance
-balanceOf es = Option·map (λ (x : Weighing × List Change). changedBy (weighed (x .0)) (x .1)) (lastWeighing es)
+balanceOf es = Option·map (λ (x : Readings × List Change). changedBy (weighed (x .0)) (x .1)) (lastWeighing es)
 
 -- the empty centre of gravity: M/G to the nearest unit, halves towards the tail, so M/G + 1/2 rounded down
 unfoldable pub centreOf : Balance → ℤ
@@ -85,6 +119,7 @@ abbrev pub asSheet : Entry → Option Sheet
 asSheet (entry.Weighing w) = none
 asSheet (entry.Sheet s) = some s
 asSheet (entry.Change x) = none
+asSheet (entry.Paired x) = none
 
 -- the sheet in force: the last of the list
 unfoldable pub sheetOf : List Entry → Option Sheet

@@ -13,8 +13,8 @@ use Rattle.paper.specs.declared.Sheet.{Sheet}
 use Rattle.paper.specs.declared.Change.{Change}
 use Rattle.paper.specs.declared.Entry.{Entry}
 use Rattle.paper.specs.declared.Entry.the-variants as entry
-use Rattle.paper.specs.Units.{between, isWeight, isArm}
-use Rattle.paper.specs.Record.{Balance, totalOf, weighed, changed, balanceOf, sheetOf}
+use Rattle.paper.specs.Units.{between, isWeight, isArm, halfGrams}
+use Rattle.paper.specs.Record.{Balance, Readings, alike, paired, totalOf, changed, balanceOf, sheetOf}
 use Rattle.paper.specs.Rows.{rowCount}
 use Rattle.paper.specs.Placard.{textLength}
 use Rattle.paper.specs.File.{fileBytes, laidOut}
@@ -37,30 +37,31 @@ capacity = 64
 unfoldable pub full : List Entry → Bool
 full es = leb capacity (length es)
 
--- G is 1..2,000,000, and n is 0..G
-unfoldable pub isTotal : ℤ → Bool
-isTotal g = between (pos 1) (pos 2000000) g
-
-unfoldable pub isNonLifting : Balance → Bool
-isNonLifting b = between (pos 0) (b .total) (b .nonLifting)
-
 -- ---- weighing: 9, 1, 2, 3
 
--- 1: m not 1..4, p or q not a weight, q above p in methods 1 and 2, or G out of its range
+-- 1: m not 1..4, p or q not a weight, q above p in methods 1 and 2, or G not 1..2,000,000 g
 unfoldable pub badReading : Weighing → Bool
 badReading w =
-    not (leb 1 (w .m) && leb (w .m) 4) || not (isWeight (w .p)) || not (isWeight (w .q)) || ((eqb (w .m) 1 || eqb (w .m) 2) && ltb (w .p) (w .q)) || not (isTotal (totalOf w))
+    not (leb 1 (w .m) && leb (w .m) 4) || not (isWeight (w .p)) || not (isWeight (w .q)) || ((eqb (w .m) 1 || eqb (w .m) 2) && ltb (w .p) (w .q)) || not (between (pos 1) (pos 2000000) (totalOf w))
 
 -- 2: a not an arm, or b not 1..2,000,000
 unfoldable pub badDistance : Weighing → Bool
 badDistance w = not (isArm (w .a)) || not (leb 1 (w .b) && leb (w .b) 2000000)
 
--- what is asked of a weighing, in its order behind 9
-unfoldable pub weighingFaults : Weighing → List (ℕ × Bool)
-weighingFaults w = 1 when badReading w ∷ 2 when badDistance w ∷ 3 when not (isNonLifting (weighed w)) ∷ []
+-- 3: n not 0..G
+unfoldable pub badPart : Weighing → Bool
+badPart w = not (between (pos 0) (totalOf w) (pos (w .n)))
 
-unfoldable pub weighingNumber : List Entry → Weighing → ℕ
-weighingNumber es w = firstNumber (9 when full es ∷ weighingFaults w)
+-- a condition holds of either reading
+abbrev pub either : (Weighing → Bool) → Readings → Bool
+either q x = q (x .first) || q (x .second)
+
+-- what is asked of a weighing, plain or paired, in its order behind 9: by number, and not reading by reading
+unfoldable pub weighingFaults : Readings → List (ℕ × Bool)
+weighingFaults x = 1 when either badReading x ∷ 2 when either badDistance x ∷ 3 when either badPart x ∷ []
+
+unfoldable pub weighingNumber : List Entry → Readings → ℕ
+weighingNumber es x = firstNumber (9 when full es ∷ weighingFaults x)
 
 -- ---- data sheet: 9, 2, 4, 5
 
@@ -104,6 +105,13 @@ unfoldable pub afterwards : (Balance → Bool) → Option Balance → Change →
 afterwards q none x = false
 afterwards q (some b) x = q (changed b x)
 
+-- G is a gram at least and 2,000,000 g at most, and n is 0..G
+unfoldable pub isTotal : Balance → Bool
+isTotal b = between (halfGrams (pos 1)) (halfGrams (pos 2000000)) (b .total)
+
+unfoldable pub isNonLifting : Balance → Bool
+isNonLifting b = between (pos 0) (b .total) (b .nonLifting)
+
 -- c is not 0 and no more than 2,000,000 either way, and the flag is 0 or 1
 unfoldable pub isChange : Change → Bool
 isChange x =
@@ -111,7 +119,7 @@ isChange x =
 
 -- 6: c or the flag is out of its range, or G afterwards
 unfoldable pub badChange : Option Balance → Change → Bool
-badChange o x = not (isChange x) || afterwards (λ b. not (isTotal (b .total))) o x
+badChange o x = not (isChange x) || afterwards (λ b. not (isTotal b)) o x
 
 -- what is asked of a change where o is the balance, none of it before a weighing, in its order behind 9
 unfoldable pub changeFaults : Option Balance → Change → List (ℕ × Bool)
@@ -151,9 +159,10 @@ writingNumber es n = firstNumber (11 when ltb n (length (fileBytes es)) ∷ [])
 
 -- the number that an entry gets, by its call
 unfoldable pub entryNumber : List Entry → Entry → ℕ
-entryNumber es (entry.Weighing w) = weighingNumber es w
+entryNumber es (entry.Weighing w) = weighingNumber es (alike w)
 entryNumber es (entry.Sheet s) = sheetNumber es s
 entryNumber es (entry.Change x) = changeNumber es x
+entryNumber es (entry.Paired x) = weighingNumber es (paired x)
 
 -- entries taken in turn behind a list get no number
 unfoldable pub acceptedAfter : List Entry → List Entry → Bool

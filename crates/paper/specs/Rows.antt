@@ -11,27 +11,30 @@ use Rattle.paper.specs.declared.Station.{Station}
 use Rattle.paper.specs.declared.Sheet.{Sheet}
 use Rattle.paper.specs.declared.Row.{Row}
 use Rattle.paper.specs.declared.Row.the-variants.{Range, Blank}
-use Rattle.paper.specs.Record.{Balance}
+use Rattle.paper.specs.Units.{halfGrams}
+use Rattle.paper.specs.Record.{Balance, with}
 
--- T: the whole weight with rear load r, front load p and water v aboard
-unfoldable pub weightWith : Balance → ℕ → ℕ → ℕ → ℤ
-weightWith b r p v = b .total +ℤ pos p +ℤ pos r +ℤ pos v
+-- the balance with rear load r, front load p and water v aboard, each at its arm: T is its total, S its moment. Water never
+-- counts as non-lifting
+unfoldable pub laden : Sheet → Balance → ℕ → ℕ → ℕ → Balance
+laden s b r p v =
+    with (with (with b (pos p) (s .front .arm) true) (pos r) (s .rear .arm) true) (pos v) (s .water .arm) false
 
--- S: the whole moment with them
-unfoldable pub momentWith : Sheet → Balance → ℕ → ℕ → ℕ → ℤ
-momentWith s b r p v =
-    b .moment +ℤ pos p *ℤ s .front .arm +ℤ pos r *ℤ s .rear .arm +ℤ pos v *ℤ s .water .arm
+-- a weight of a balance is at most so many grams
+unfoldable pub atMost : ℕ → ℤ → Bool
+atMost most g = leZ g (halfGrams (pos most))
 
 -- the lines of limits, each as it holds or fails with v aboard:
--- the greatest weight without water, and with it; the greatest non-lifting weight, unless that is 0 (water never counts as
--- non-lifting); the moment not ahead of FWD, nor behind the safe aft limit, which is 5 % of the range inside AFT
+-- the greatest weight without water, and with it; the greatest non-lifting weight, unless that is 0; the moment not ahead of
+-- FWD, nor behind the safe aft limit, which is 5 % of the range inside AFT
 unfoldable pub lines : Sheet → Balance → ℕ → ℕ → ℕ → List Bool
 lines s b r p v =
-    leZ (weightWith b r p 0) (pos (s .dry)) ∷
-    leZ (weightWith b r p v) (pos (s .wet)) ∷
-    (eqb (s .nlp) 0 || leZ (b .nonLifting +ℤ pos p +ℤ pos r) (pos (s .nlp))) ∷
-    leZ (s .fwd *ℤ weightWith b r p v) (momentWith s b r p v) ∷
-    leZ (pos 20 *ℤ momentWith s b r p v) ((pos 19 *ℤ s .aft +ℤ s .fwd) *ℤ weightWith b r p v) ∷ []
+    let t = laden s b r p v in
+    atMost (s .dry) (laden s b r p 0 .total) ∷
+    atMost (s .wet) (t .total) ∷
+    (eqb (s .nlp) 0 || atMost (s .nlp) (t .nonLifting)) ∷
+    leZ (s .fwd *ℤ t .total) (t .moment) ∷
+    leZ (pos 20 *ℤ t .moment) ((pos 19 *ℤ s .aft +ℤ s .fwd) *ℤ t .total) ∷ []
 
 unfoldable pub all : List Bool → Bool
 all [] = true

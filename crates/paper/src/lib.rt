@@ -1,5 +1,5 @@
-// What paper 01 speaks of, as types: weights and arms, the three entries, a row, and what the calls answer.
-// What the paper says of them is in specs/, a file for each of its headings.
+// What the papers speak of, as types: weights and arms, the entries, a row, and what the calls answer.
+// What the papers say of them is in specs/, a file for each heading of paper 01.
 ghost use mathlib.Core.Path.{_≡_};
 ghost use Rattle.paper.specs.Units.{isArm};
 
@@ -24,6 +24,14 @@ impl Weight {
 
     // The most that a seat's load and its step may be.
     pub const SEAT: u64 = 500_000;
+
+    // A balance is in half grams: so many to a gram.
+    pub const HALVES: u64 = 2;
+
+    // A gram, and the most that a change may leave, in half grams.
+    pub const HALVES_LEAST: i64 = Weight::HALVES as i64;
+
+    pub const HALVES_MOST: i64 = Weight::HALVES_LEAST * Weight::SIGNED_MOST;
 }
 
 // Whole hundredths of a millimetre, positive aft of the datum.
@@ -51,6 +59,18 @@ pub struct Weighing {
     pub m: u64,
     pub p: u64,
     pub q: u64,
+    pub a: i64,
+    pub b: u64,
+    pub n: u64,
+}
+
+// A paired weighing: two readings, p and q and then p' and q', with method, distances and non-lifting weight in common.
+pub struct Paired {
+    pub m: u64,
+    pub p: u64,
+    pub q: u64,
+    pub p2: u64,
+    pub q2: u64,
     pub a: i64,
     pub b: u64,
     pub n: u64,
@@ -87,6 +107,7 @@ pub enum Entry {
     Weighing(Weighing),
     Sheet(Sheet),
     Change(Change),
+    Paired(Paired),
 }
 
 // A row of the placard: the smallest and the largest front load, or blank.
@@ -95,7 +116,7 @@ pub enum Row {
     Blank,
 }
 
-// What the centre-of-gravity call answers; behind a refusal all but the number is 0.
+// What the centre-of-gravity call answers, total and moment in half grams; behind a refusal all but the number is 0.
 pub struct CentreOfGravity {
     pub number: u64,
     pub total: u64,

@@ -1,5 +1,6 @@
 -- `balance::centre` meets its contract: each quotient by its law of rounding. Assumes nothing.
 use borrow.Author.Needs.{needs}
+use native.Mathlib.Omega.{arith}
 use lib.IntN.{pos}
 use mir.Facts.{toZ-ofZ}
 use Rattle.balance.proofs.Rounding.{turns-aft, turns-forward}
@@ -45,13 +46,13 @@ signed-of-requires-2 c κs = search needs
 returns : tie.Need-returns
 returns c =
     let b = c .before .before .before .args .b in
-    turns-aft (b .total) (b .aft) (b .fore) (pos (b .nonlifting)) (c .before .before .before .pre .ranged .least) _ (c .before .before .if1 .taken) (c .before .over .result) (c .before .over .ensures .0)
+    turns-aft (b .total) (b .aft) (b .fore) (pos (b .nonlifting)) (omega (arith, c .before .before .before .pre .ranged .least)) _ (c .before .before .if1 .taken) (c .before .over .result) (c .before .over .ensures .0)
     (rw (toZ-ofZ (record { sfits = c .signed-of .ok })) (c .signed-of .ensures))
 
 returns-2 : tie.Need-returns-2
 returns-2 c =
     let b = c .before .before .before .args .b in
-    turns-forward (b .total) (b .aft) (b .fore) (pos (b .nonlifting)) (c .before .before .before .pre .ranged .least) _ (c .before .before .if1 .left) (c .before .over2 .result) (c .before .over2 .ensures .0)
+    turns-forward (b .total) (b .aft) (b .fore) (pos (b .nonlifting)) (omega (arith, c .before .before .before .pre .ranged .least)) _ (c .before .before .if1 .left) (c .before .over2 .result) (c .before .over2 .ensures .0)
     (rw (toZ-ofZ (record { sfits = c .signed-of2 .ok })) (c .signed-of2 .ensures))
 
 pub centre-spec : {M : Type 1} → statement M

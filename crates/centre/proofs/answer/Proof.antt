@@ -19,8 +19,8 @@ returns : tie.Need-returns
 returns c es w = sym (centre-none _ (sym w ∙ ap plainly (c .enum-told .given .1)))
 
 -- the balance that stands has its bounds
-stands : (c : tie.After-known-told) → Bounded 4096 (c .before .standing .given .0 .0)
-stands c = of-weighed 4096 _ _ (c .before .standing .given .1) (c .before .before .before .pre)
+stands : (c : tie.After-known-told) → Bounded 1024 (c .before .standing .given .0 .0)
+stands c = of-weighed 1024 _ _ (c .before .standing .given .1) (c .before .before .before .pre)
 
 moment-requires : tie.Need-moment-requires
 moment-requires c κs = stands c

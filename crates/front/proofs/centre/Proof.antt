@@ -38,7 +38,7 @@ module _ (c : tie.After-known-told) where
 answer-requires : tie.Need-answer-requires
 answer-requires c κs =
     let f = held c in
-    grown (length (f .0)) 4096 (c .before .found .given .0 .0 .standing) (omega (arith, at-most-64 (f .0) (held-accepted (buffer c) (f .0) (f .1)))) (f .2 .sound)
+    grown (length (f .0)) 1024 (c .before .found .given .0 .0 .standing) (omega (arith, at-most-64 (f .0) (held-accepted (buffer c) (f .0) (f .1)))) (f .2 .sound)
 
 returns-2 : tie.Need-returns-2
 returns-2 c =

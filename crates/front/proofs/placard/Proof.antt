@@ -42,7 +42,7 @@ answer-requires c κs =
     let k = c .before in
     let f = held k in
     let fine = held-accepted (buffer k) (f .0) (f .1) in (
-      grown (length (f .0)) 4096 (k .before .found .given .0 .0 .standing) (omega (arith, at-most-64 (f .0) fine)) (f .2 .sound),
+      grown (length (f .0)) 1024 (k .before .found .given .0 .0 .standing) (omega (arith, at-most-64 (f .0) fine)) (f .2 .sound),
       λ s e. sheet-accepted (f .0) s fine (sym (f .2 .sheet) ∙ e),
     )
 

@@ -15,7 +15,7 @@ returns c = rw (c .enum-told .given .1) (unweighed (c .before .before .args .x))
 
 number-requires : tie.Need-number-requires
 number-requires c κs =
-    let s = c .before .before .before in of-weighed 4096 (s .args .standing) _ (c .before .standing .given .1) (s .pre) .ranged
+    let s = c .before .before .before in of-weighed 1024 (s .args .standing) _ (c .before .standing .given .1) (s .pre) .ranged
 
 returns-2 : tie.Need-returns-2
 returns-2 c = rw (c .before .before .standing .given .1) (c .number .ensures)

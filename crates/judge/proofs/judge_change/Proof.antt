@@ -21,8 +21,8 @@ returns c k h =
     (unweighed (c .before .before .args .x), omega (arith, unweighed (c .before .before .args .x)))
 
 -- the balance that stands has its bounds
-stands : (c : tie.After-known-told) → Bounded 4096 (c .before .standing .given .0 .0)
-stands c = let s = c .before .before .before in of-weighed 4096 (s .args .standing) _ (c .before .standing .given .1) (s .pre)
+stands : (c : tie.After-known-told) → Bounded 1024 (c .before .standing .given .0 .0)
+stands c = let s = c .before .before .before in of-weighed 1024 (s .args .standing) _ (c .before .standing .given .1) (s .pre)
 
 number-requires : tie.Need-number-requires
 number-requires c κs = stands c .ranged

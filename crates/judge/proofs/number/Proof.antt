@@ -25,7 +25,7 @@ enum-known-e-3 : tie.Need-enum-known-e-3
 enum-known-e-3 c = search needs
 
 change-number-requires : tie.Need-change-number-requires
-change-number-requires c κs = let s = c .before .before .before .before in grown (s .args .count) 4096 (s .args .standing) (omega arith) (s .pre)
+change-number-requires c κs = let s = c .before .before .before .before in grown (s .args .count) 1024 (s .args .standing) (omega arith) (s .pre)
 
 returns-2 : tie.Need-returns-2
 returns-2 c =

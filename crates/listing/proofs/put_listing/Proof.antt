@@ -106,7 +106,7 @@ answer-requires : tie.Need-answer-requires Inv-loop μ-loop
 answer-requires c κs =
     let t = c .before in
     let says = rw (t .before .next .given .1) at (t .before .before .before .judge .ensures) in
-    grown (here t .loop .n + 1) 4096 (next t) (omega (arith, few t)) (says .2)
+    grown (here t .loop .n + 1) 1024 (next t) (omega (arith, few t)) (says .2)
 
 put-lines-requires : tie.Need-put-lines-requires Inv-loop μ-loop
 put-lines-requires c κs =

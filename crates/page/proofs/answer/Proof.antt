@@ -36,8 +36,8 @@ module _ (c : tie.After-known-told) where
   weighed : (es : List Entry) → plainly (c .before .before .before .before .args .standing) ≡ balanceOf es → balanceOf es ≡ some (plain (c .before .standing .given .0 .0))
   weighed es w = sym w ∙ ap plainly (c .before .standing .given .1)
 
-  bounded : Bounded 4096 (c .before .standing .given .0 .0)
-  bounded = of-weighed 4096 _ _ (c .before .standing .given .1) (c .before .before .before .before .pre .0)
+  bounded : Bounded 1024 (c .before .standing .given .0 .0)
+  bounded = of-weighed 1024 _ _ (c .before .standing .given .1) (c .before .before .before .before .pre .0)
 
 enum-known-sheet : tie.Need-enum-known-sheet
 enum-known-sheet c = search needs

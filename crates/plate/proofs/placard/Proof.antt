@@ -33,7 +33,7 @@ answer-requires : tie.Need-answer-requires
 answer-requires c κs =
     let p = c .before .before .before in
     let r = p .before .before .args .r in (
-      grown _ 4096 (p .replay .result .standing) (omega (arith, held-most r)) (p .replay .ensures .sound),
+      grown _ 1024 (p .replay .result .standing) (omega (arith, held-most r)) (p .replay .ensures .sound),
       λ s f. sheet-accepted (heldBy r) s (held-accepted r) (sym (sheet (c .before)) ∙ f),
     )
 

@@ -13,7 +13,7 @@ replay-requires c κs = search needs
 
 answer-requires : tie.Need-answer-requires
 answer-requires c κs =
-    grown _ 4096 (c .replay .result .standing) (omega (arith, held-most (c .before .args .self))) (c .replay .ensures .sound)
+    grown _ 1024 (c .replay .result .standing) (omega (arith, held-most (c .before .args .self))) (c .replay .ensures .sound)
 
 returns : tie.Need-returns
 returns c = c .answer .ensures (heldBy (c .before .before .args .self)) (c .before .replay .ensures .stands)
