@@ -128,5 +128,6 @@ pub fn later(last: InForce, e: Entry) -> InForce
         Entry::Weighing(_) => last,
         Entry::Sheet(s) => InForce::Found(s),
         Entry::Change(_) => last,
+        Entry::Paired(_) => last,
     }
 }
