@@ -14,6 +14,7 @@ use Rattle.paper.specs.declared.Station.{Station}
 use Rattle.paper.specs.declared.Weighing.{Weighing}
 use Rattle.paper.specs.declared.Sheet.{Sheet}
 use Rattle.paper.specs.declared.Change.{Change}
+use Rattle.paper.specs.declared.Paired.{Paired}
 use Rattle.paper.specs.declared.Entry.the-variants as entry
 use Rattle.paper.specs.File.{signedWord, fieldValue, layoutOf, entryOf}
 use Rattle.paper.specs.Refusals.{isNone}
@@ -22,18 +23,18 @@ use Rattle.layout.specs.Table.{entryWith}
 
 -- ---- the table
 
-pub no-row : (k : ℕ) → (k ≡ 1 → ⊥) → (k ≡ 2 → ⊥) → (k ≡ 3 → ⊥) → layoutOf k ≡ none
+pub no-row : (k : ℕ) → (k ≡ 1 → ⊥) → (k ≡ 2 → ⊥) → (k ≡ 3 → ⊥) → (k ≡ 4 → ⊥) → layoutOf k ≡ none
 unfolding layoutOf
-no-row k a b c = rw (ne-eqb k 1 a, ne-eqb k 2 b, ne-eqb k 3 c)
+no-row k a b c d = rw (ne-eqb k 1 a, ne-eqb k 2 b, ne-eqb k 3 c, ne-eqb k 4 d)
 
-third : (t : Bool) (k : ℕ) → eqb k 3 ≡ t → isNone (cond t (layoutOf 3) none) ≡ false → k ≡ 3
+fourth : (t : Bool) (k : ℕ) → eqb k 4 ≡ t → isNone (cond t (layoutOf 4) none) ≡ false → k ≡ 4
 unfolding isNone
-third true k e h = eqb-true k 3 e
-third false k e h = cc
+fourth true k e h = eqb-true k 4 e
+fourth false k e h = cc
 
-pub last-row : (k : ℕ) → isNone (layoutOf k) ≡ false → (k ≡ 1 → ⊥) → (k ≡ 2 → ⊥) → k ≡ 3
+pub last-row : (k : ℕ) → isNone (layoutOf k) ≡ false → (k ≡ 1 → ⊥) → (k ≡ 2 → ⊥) → (k ≡ 3 → ⊥) → k ≡ 4
 unfolding layoutOf
-last-row k h a b = third (eqb k 3) k refl (rw (ne-eqb k 1 a, ne-eqb k 2 b) at h)
+last-row k h a b c = fourth (eqb k 4) k refl (rw (ne-eqb k 1 a, ne-eqb k 2 b, ne-eqb k 3 c) at h)
 
 -- ---- from words to an entry
 
@@ -64,6 +65,19 @@ sheetIn ns =
 abbrev pub changeIn : List ℕ → Change
 changeIn ns = record { c = arm ns 0; arm = arm ns 1; flag = getD ns 2 0 }
 
+abbrev pub pairedIn : List ℕ → Paired
+pairedIn ns =
+    record {
+      m = getD ns 0 0;
+      p = getD ns 1 0;
+      q = getD ns 2 0;
+      p2 = getD ns 3 0;
+      q2 = getD ns 4 0;
+      a = arm ns 5;
+      b = getD ns 6 0;
+      n = getD ns 7 0;
+    }
+
 module _ (ns : List ℕ) (e : length ns ≡ 15) where
   pub weighing-in : entry.Weighing (weighingIn ns) ≡ entryWith 1 ns
   unfolding entryWith layoutOf entryOf valuesBy fieldValue
@@ -76,6 +90,10 @@ module _ (ns : List ℕ) (e : length ns ≡ 15) where
   pub change-in : entry.Change (changeIn ns) ≡ entryWith 3 ns
   unfolding entryWith layoutOf entryOf valuesBy fieldValue
   change-in = sym (ap (entryWith 3) (by-elements 15 ns 0 e))
+
+  pub paired-in : entry.Paired (pairedIn ns) ≡ entryWith 4 ns
+  unfolding entryWith layoutOf entryOf valuesBy fieldValue
+  paired-in = sym (ap (entryWith 4) (by-elements 15 ns 0 e))
 
   -- a sheet of its parts
   pub sheet-made :

@@ -1,6 +1,7 @@
 // How an entry lies in the file: the widths of its fields, a row for each kind, and its values as the words they hold.
 use paper::Change;
 use paper::Entry;
+use paper::Paired;
 use paper::Sheet;
 use paper::Station;
 use paper::Weighing;
@@ -9,7 +10,7 @@ use words::word_of;
 ghost use mathlib.Core.Path.{_≡_};
 ghost use mathlib.Core.Bool.{false};
 ghost use Rattle.paper.specs.declared.Entry.the-variants as entry;
-ghost use Rattle.paper.specs.File.{signedWord, fieldValue, layoutOf};
+ghost use Rattle.paper.specs.File.{signedWord, fieldValue, layoutOf, kindOf};
 ghost use Rattle.paper.specs.Refusals.{isNone};
 ghost use Rattle.layout.specs.Table.{padded, rowOf, wordsOf, fieldsIn, entryWith};
 
@@ -51,6 +52,12 @@ pub fn layout_of(kind: u8) -> Layout
             count: 3,
             length: 9,
             widths: [4, 4, 1, 0, 0, 0, 0, 0, 0, 0, 0, 0, 0, 0, 0],
+        },
+        // m; p, q, p', q', a, b, n
+        4 => Layout {
+            count: 8,
+            length: 29,
+            widths: [1, 4, 4, 4, 4, 4, 4, 4, 0, 0, 0, 0, 0, 0, 0],
         },
         _ => Layout {
             count: 0,
@@ -105,6 +112,25 @@ fn change_words(x: Change) -> [u64; FIELDS]
     [c, arm, x.flag, 0, 0, 0, 0, 0, 0, 0, 0, 0, 0, 0, 0]
 }
 
+fn paired_words(x: Paired) -> [u64; FIELDS]
+    ensures { λ r. ⌜ r ≡ padded (wordsOf (entry.Paired x)) ⌝ }
+{
+    let a = word_of(x.a);
+    [x.m, x.p, x.q, x.p2, x.q2, a, x.b, x.n, 0, 0, 0, 0, 0, 0, 0]
+}
+
+// The kind of an entry.
+pub fn kind_of(e: Entry) -> u8
+    ensures { λ r. ⌜ r ≡ kindOf e ⌝ }
+{
+    match e {
+        Entry::Weighing(_) => 1,
+        Entry::Sheet(_) => 2,
+        Entry::Change(_) => 3,
+        Entry::Paired(_) => 4,
+    }
+}
+
 // An entry as the file has it.
 pub fn fields_of(e: Entry) -> Fields
     ensures { λ r. ⌜ r ≡ fieldsIn e ⌝ }
@@ -121,6 +147,10 @@ pub fn fields_of(e: Entry) -> Fields
         Entry::Change(x) => Fields {
             kind: 3,
             words: change_words(x),
+        },
+        Entry::Paired(x) => Fields {
+            kind: 4,
+            words: paired_words(x),
         },
     }
 }
@@ -174,6 +204,21 @@ fn change_of(n: [u32; FIELDS]) -> Change
     }
 }
 
+fn paired_of(n: [u32; FIELDS]) -> Paired
+    ensures { λ r. ⌜ entry.Paired r ≡ entryWith 4 n ⌝ }
+{
+    Paired {
+        m: n[0] as u64,
+        p: n[1] as u64,
+        q: n[2] as u64,
+        p2: n[3] as u64,
+        q2: n[4] as u64,
+        a: signed(n[5]),
+        b: n[6] as u64,
+        n: n[7] as u64,
+    }
+}
+
 // The entry of a kind of the table with these words.
 pub fn entry_of(kind: u8, n: [u32; FIELDS]) -> Entry
     requires { ⌜ isNone (layoutOf kind) ≡ false ⌝ }
@@ -182,6 +227,7 @@ pub fn entry_of(kind: u8, n: [u32; FIELDS]) -> Entry
     match kind {
         1 => Entry::Weighing(weighing_of(n)),
         2 => Entry::Sheet(sheet_of(n)),
-        _ => Entry::Change(change_of(n)),
+        3 => Entry::Change(change_of(n)),
+        _ => Entry::Paired(paired_of(n)),
     }
 }

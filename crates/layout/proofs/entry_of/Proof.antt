@@ -16,6 +16,9 @@ sheet-of-requires c κs = search needs
 change-of-requires : tie.Need-change-of-requires
 change-of-requires c κs = search needs
 
+paired-of-requires : tie.Need-paired-of-requires
+paired-of-requires c κs = search needs
+
 returns : tie.Need-returns
 returns c =
     let b = c .before in
@@ -29,9 +32,14 @@ returns-2 c =
 returns-3 : tie.Need-returns-3
 returns-3 c =
     let b = c .before in
+    c .change-of .ensures ∙ ap (λ (k : ℕ). entryWith k (b .before .args .n)) (sym (b .match .keys3))
+
+returns-4 : tie.Need-returns-4
+returns-4 c =
+    let b = c .before in
     let m = b .match .rest in
-    let third = last-row (b .before .args .kind) (b .before .pre) (m .0 .1) (m .1) in
-    c .change-of .ensures ∙ ap (λ (k : ℕ). entryWith k (b .before .args .n)) (sym third)
+    let fourth = last-row (b .before .args .kind) (b .before .pre) (m .0 .0 .1) (m .0 .1) (m .1) in
+    c .paired-of .ensures ∙ ap (λ (k : ℕ). entryWith k (b .before .args .n)) (sym fourth)
 
 pub entry-of-spec : {M : Type 1} → statement M
 entry-of-spec =
@@ -40,6 +48,8 @@ entry-of-spec =
     weighing-of-requires
     sheet-of-requires
     change-of-requires
+    paired-of-requires
     returns
     returns-2
-    returns-3)
+    returns-3
+    returns-4)

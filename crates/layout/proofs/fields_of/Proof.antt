@@ -21,6 +21,12 @@ enum-known-e-3 c = search needs
 change-words-requires : tie.Need-change-words-requires
 change-words-requires c κs = search needs
 
+enum-known-e-4 : tie.Need-enum-known-e-4
+enum-known-e-4 c = search needs
+
+paired-words-requires : tie.Need-paired-words-requires
+paired-words-requires c κs = search needs
+
 returns : tie.Need-returns
 returns c =
     rw (c .before .before .e .given .1, c .weighing-words .ensures)
@@ -33,6 +39,10 @@ returns-3 : tie.Need-returns-3
 returns-3 c =
     rw (c .before .before .e3 .given .1, c .change-words .ensures)
 
+returns-4 : tie.Need-returns-4
+returns-4 c =
+    rw (c .before .before .e4 .given .1, c .paired-words .ensures)
+
 pub fields-of-spec : {M : Type 1} → statement M
 fields-of-spec =
     tie.close
@@ -43,6 +53,9 @@ fields-of-spec =
     sheet-words-requires
     enum-known-e-3
     change-words-requires
+    enum-known-e-4
+    paired-words-requires
     returns
     returns-2
-    returns-3)
+    returns-3
+    returns-4)
