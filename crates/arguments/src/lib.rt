@@ -1,6 +1,7 @@
 // An entry of plain numbers, as the library for C and Rust is handed them.
 use paper::Change;
 use paper::Entry;
+use paper::Paired;
 use paper::Sheet;
 use paper::Station;
 use paper::Weighing;
@@ -12,6 +13,31 @@ pub fn weighing_of(m: u64, p: u64, q: u64, a: i64, b: u64, n: u64) -> Entry
     ensures { λ r. ⌜ r ≡ entry.Weighing (record { m = m; p = p; q = q; a = a; b = b; n = n }) ⌝ }
 {
     Entry::Weighing(Weighing { m, p, q, a, b, n })
+}
+
+// A paired weighing.
+pub fn paired_of(
+    m: u64,
+    p: u64,
+    q: u64,
+    p2: u64,
+    q2: u64,
+    a: i64,
+    b: u64,
+    n: u64,
+) -> Entry
+    ensures { λ r. ⌜ r ≡ entry.Paired (record { m = m; p = p; q = q; p2 = p2; q2 = q2; a = a; b = b; n = n }) ⌝ }
+{
+    Entry::Paired(Paired {
+        m,
+        p,
+        q,
+        p2,
+        q2,
+        a,
+        b,
+        n,
+    })
 }
 
 // A data sheet.

@@ -13,13 +13,13 @@ use lib.ListN.{length, take, drop, length-append, length-drop}
 use lib.Seq.{take-at, take-append-seam}
 use borrow.Author.Tests.{eqb-true, lt-ltb, le-ltb}
 use Rattle.paper.specs.declared.Entry.{Entry}
-use Rattle.paper.specs.File.{bytesOf, numberOf, bodyBytes, fileBytes}
+use Rattle.paper.specs.File.{bytesOf, numberOf, bodyAs, fileAs, version, fileBytes}
 use Rattle.paper.specs.Refusals.{acceptedAfter, accepted, fileOf, isNone, firstNumber, readingNumber, writingNumber}
 use Rattle.paper.specs.Answers.{over}
 use Rattle.paper.specs.Journal as journal
 use Rattle.paper.specs.Journal.{Call, callNumber, acceptedCall, afterBy, journalBy, numbersBy, numbers}
 use Rattle.format.specs.Numbers.{length-bytes, number-back}
-use Rattle.format.specs.Files.{read-written}
+use Rattle.format.specs.Files.{allows-all, read-written}
 use Rattle.judge.proofs.Accepted.{at-most-64}
 use Rattle.record.proofs.Following.{call-accepted}
 use Rattle.front.specs.Front.{fileIn, heldIn}
@@ -37,9 +37,9 @@ module _ (es : List Entry) (s : List ℕ) (a : accepted es ≡ true) where
   few = longest-is .most es a
 
   front-is : fileIn (over (fileBytes es) s) ≡ fileBytes es
-  unfolding fileIn over fileBytes
+  unfolding fileIn over fileAs
   front-is =
-      let body = bodyBytes es in
+      let body = bodyAs version es in
       let head = bytesOf 4 (length body) in
       let rest = drop (length (head ++ body)) s in
       let whole : length (head ++ body) ≡ 4 + length body = omega (arith, length-append head body, length-bytes 4 (length body)) in
@@ -49,7 +49,7 @@ module _ (es : List Entry) (s : List ℕ) (a : accepted es ≡ true) where
 
   put-held : heldIn (over (fileBytes es) s) ≡ some es
   unfolding heldIn
-  put-held = ap fileOf front-is ∙ read-written es a (at-most-64 es a)
+  put-held = ap fileOf front-is ∙ read-written version es (allows-all es) a (at-most-64 es a)
 
   put-length : length (fileBytes es) ≤ length s → length (over (fileBytes es) s) ≡ length s
   unfolding over

@@ -20,6 +20,7 @@ use denote.Ref.{RefT, now}
 use borrow.Author.Tests.{lt-ltb, le-ltb}
 use Rattle.laws.specs.Tests.{right}
 use Rattle.paper.specs.declared.Weighing.{Weighing}
+use Rattle.paper.specs.declared.Paired.{Paired}
 use Rattle.paper.specs.declared.Sheet.{Sheet}
 use Rattle.paper.specs.declared.Change.{Change}
 use Rattle.paper.specs.declared.Placard.{Placard}
@@ -39,6 +40,7 @@ use Rattle.lent.proofs.Answers.{file-put}
 use Rattle.nodhulika.specs.Exported.{answerLength, countsOver, placardInto}
 use Rattle.nodhulika.proofs.nodhulika_fresh.Reads as fresh
 use Rattle.nodhulika.proofs.nodhulika_weigh.Reads as weigh
+use Rattle.nodhulika.proofs.nodhulika_weigh_paired.Reads as pair
 use Rattle.nodhulika.proofs.nodhulika_sheet.Reads as sheet
 use Rattle.nodhulika.proofs.nodhulika_change.Reads as change
 use Rattle.nodhulika.proofs.nodhulika_undo.Reads as undo
@@ -54,6 +56,9 @@ use Rattle.claim.specs.RecordCalls.{sliceOf}
 abbrev pub weighingArgs : Weighing → ℕ × (ℕ × (ℕ × (ℤ × (ℕ × (ℕ × Unit {0})))))
 weighingArgs w = (w .m, (w .p, (w .q, (w .a, (w .b, (w .n, tt))))))
 
+abbrev pub pairedArgs : Paired → ℕ × (ℕ × (ℕ × (ℕ × (ℕ × (ℤ × (ℕ × (ℕ × Unit {0})))))))
+pairedArgs x = (x .m, (x .p, (x .q, (x .p2, (x .q2, (x .a, (x .b, (x .n, tt))))))))
+
 abbrev pub sheetArgs : Sheet → ℤ × (ℤ × (ℕ × (ℕ × (ℕ × (ℤ × (ℕ × (ℕ × (ℕ × (ℤ × (ℕ × (ℕ × (ℤ × (ℕ × (ℕ × Unit {0}))))))))))))))
 sheetArgs s =
     (s .fwd, (s .aft, (s .dry, (s .wet, (s .nlp, (s .front .arm, (s .least, (s .front .most, (s .front .step, (s .rear .arm, (s .rear .most, (s .rear .step, (s .water .arm, (s .water .most, (s .water .step, tt)))))))))))))))
@@ -68,6 +73,8 @@ pub data Trace : ℕ → List Call → List ℕ → List ℕ → Type 0 where
   from-fresh : (κs : _) (o o′ : RefT (List ℕ)) → fresh.Post κs (o, tt) 0 (o′, tt) → Trace (length (now o)) [] (now o′) []
   then-weigh : {n : ℕ} {calls : List Call} {buffer answers : List ℕ} → Trace n calls buffer answers
       → (w : Weighing) (κs : _) (o o′ : RefT (List ℕ)) (k : ℕ) → now o ≡ buffer → weigh.Post κs (o, weighingArgs w) k (o′, weighingArgs w) → Trace n (calls ++ journal.weigh w ∷ []) (now o′) (answers ++ k ∷ [])
+  then-pair : {n : ℕ} {calls : List Call} {buffer answers : List ℕ} → Trace n calls buffer answers
+      → (x : Paired) (κs : _) (o o′ : RefT (List ℕ)) (k : ℕ) → now o ≡ buffer → pair.Post κs (o, pairedArgs x) k (o′, pairedArgs x) → Trace n (calls ++ journal.pair x ∷ []) (now o′) (answers ++ k ∷ [])
   then-sheet : {n : ℕ} {calls : List Call} {buffer answers : List ℕ} → Trace n calls buffer answers
       → (s : Sheet) (κs : _) (o o′ : RefT (List ℕ)) (k : ℕ) → now o ≡ buffer → sheet.Post κs (o, sheetArgs s) k (o′, sheetArgs s) → Trace n (calls ++ journal.install s ∷ []) (now o′) (answers ++ k ∷ [])
   then-change : {n : ℕ} {calls : List Call} {buffer answers : List ℕ} → Trace n calls buffer answers
@@ -98,7 +105,7 @@ one-more {n} {calls} {buffer} {answers} x k left p f e l =
       numbers = rw (number, f .numbers) (sym (numbers-more (numberIn n) [] calls x));
     }
 
--- a weighing, a sheet, a change or taking back
+-- a weighing, plain or paired, a sheet, a change or taking back
 called : {n : ℕ} {calls : List Call} {buffer answers : List ℕ} (x : Call) (k : ℕ) (before left : List ℕ) → Follows n calls buffer answers → before ≡ buffer → (k, left) ≡ lentCall x before → Follows n (calls ++ x ∷ []) left (answers ++ k ∷ [])
 called {n} {calls} {buffer} x k before left f b e =
     one-more x k left (lentCall x buffer) f (rw b at e) (call-leaves n (journalIn n calls) buffer (f .holds) x)
@@ -110,6 +117,7 @@ read-back {n} {calls} {buffer} xs k before left f b e =
 follows : {n : ℕ} {calls : List Call} {buffer answers : List ℕ} → Trace n calls buffer answers → Follows n calls buffer answers
 follows (from-fresh κs o o′ h) = none-yet (now o) (now o′) h
 follows (then-weigh t w κs o o′ k b h) = called (journal.weigh w) k (now o) (now o′) (follows t) b h
+follows (then-pair t x κs o o′ k b h) = called (journal.pair x) k (now o) (now o′) (follows t) b h
 follows (then-sheet t s κs o o′ k b h) = called (journal.install s) k (now o) (now o′) (follows t) b h
 follows (then-change t x κs o o′ k b h) = called (journal.change x) k (now o) (now o′) (follows t) b h
 follows (then-undo t κs o o′ k b h) = called journal.undo k (now o) (now o′) (follows t) b h
@@ -199,6 +207,7 @@ fresh-fits s h = rw (file-put [] s (omega (arith, file-length [])))
 -- one call more can run, and has as its buffer what was left
 abbrev after : Call → List ℕ → ℕ × List ℕ
 after (journal.weigh w) s = lentCall (journal.weigh w) s
+after (journal.pair x) s = lentCall (journal.pair x) s
 after (journal.install t) s = lentCall (journal.install t) s
 after (journal.change x) s = lentCall (journal.change x) s
 after journal.undo s = lentCall journal.undo s
@@ -206,6 +215,7 @@ after (journal.read xs) s = lentRead xs s
 
 next : {n : ℕ} {calls : List Call} {buffer answers : List ℕ} (x : Call) → Trace n calls buffer answers → Trace n (calls ++ x ∷ []) (after x buffer .1) (answers ++ after x buffer .0 ∷ [])
 next {buffer = s} (journal.weigh w) t = then-weigh t w ([], tt) (sliceOf s) (sliceOf (after (journal.weigh w) s .1)) _ refl refl
+next {buffer = s} (journal.pair x) t = then-pair t x ([], tt) (sliceOf s) (sliceOf (after (journal.pair x) s .1)) _ refl refl
 next {buffer = s} (journal.install u) t = then-sheet t u ([], tt) (sliceOf s) (sliceOf (after (journal.install u) s .1)) _ refl refl
 next {buffer = s} (journal.change x) t = then-change t x ([], tt) (sliceOf s) (sliceOf (after (journal.change x) s .1)) _ refl refl
 next {buffer = s} journal.undo t = then-undo t ([], tt) (sliceOf s) (sliceOf (after journal.undo s .1)) _ refl refl

@@ -10,6 +10,7 @@ use mathlib.Core.List.{List, [], _∷_, _++_, append-assoc, append-nil}
 use Prim.Native.Nat.{ℕ}
 use denote.Ref.{RefT, now}
 use Rattle.paper.specs.declared.Weighing.{Weighing}
+use Rattle.paper.specs.declared.Paired.{Paired}
 use Rattle.paper.specs.declared.Sheet.{Sheet}
 use Rattle.paper.specs.declared.Change.{Change}
 use Rattle.paper.specs.declared.Placard.{Placard}
@@ -22,6 +23,7 @@ use Rattle.record.specs.Held.{recordOf, heldBy, answered}
 use Rattle.record.proofs.Replays.{held-accepted}
 use Rattle.record.proofs.Record.fresh.Reads as fresh
 use Rattle.record.proofs.Record.weigh.Reads as weigh
+use Rattle.record.proofs.Record.weigh_paired.Reads as pair
 use Rattle.record.proofs.Record.install.Reads as install
 use Rattle.record.proofs.Record.change.Reads as change
 use Rattle.record.proofs.Record.undo.Reads as undo
@@ -36,6 +38,8 @@ pub data Trace : List Call → Record → List ℕ → Type 0 where
   from-fresh : (r : Record) → fresh.Post tt tt r tt → Trace [] r []
   then-weigh : {calls : List Call} {r : Record} {answers : List ℕ} → Trace calls r answers
       → (w : Weighing) (k : Kept) → weigh.Post tt (r, (w, tt)) k (r, (w, tt)) → Trace (calls ++ journal.weigh w ∷ []) (k .log) (answers ++ k .number ∷ [])
+  then-pair : {calls : List Call} {r : Record} {answers : List ℕ} → Trace calls r answers
+      → (x : Paired) (k : Kept) → pair.Post tt (r, (x, tt)) k (r, (x, tt)) → Trace (calls ++ journal.pair x ∷ []) (k .log) (answers ++ k .number ∷ [])
   then-install : {calls : List Call} {r : Record} {answers : List ℕ} → Trace calls r answers
       → (s : Sheet) (k : Kept) → install.Post tt (r, (s, tt)) k (r, (s, tt)) → Trace (calls ++ journal.install s ∷ []) (k .log) (answers ++ k .number ∷ [])
   then-change : {calls : List Call} {r : Record} {answers : List ℕ} → Trace calls r answers
@@ -48,6 +52,7 @@ pub data Trace : List Call → Record → List ℕ → Type 0 where
 pub follows : {calls : List Call} {r : Record} {answers : List ℕ} → Trace calls r answers → Follows calls r answers
 follows (from-fresh r h) = none-yet r h
 follows (then-weigh t w k h) = one-more (journal.weigh w) k (follows t) h
+follows (then-pair t x k h) = one-more (journal.pair x) k (follows t) h
 follows (then-install t s k h) = one-more (journal.install s) k (follows t) h
 follows (then-change t x k h) = one-more (journal.change x) k (follows t) h
 follows (then-undo t k h) = one-more journal.undo k (follows t) h
@@ -81,6 +86,7 @@ sliceOf xs = record { ptr = (0, 0); name = 0; now = xs }
 -- one call more can run
 next : {calls : List Call} {r : Record} {answers : List ℕ} (x : Call) → Trace calls r answers → Trace (calls ++ x ∷ []) (answered r x .log) (answers ++ answered r x .number ∷ [])
 next (journal.weigh w) t = then-weigh t w (answered _ (journal.weigh w)) refl
+next (journal.pair x) t = then-pair t x (answered _ (journal.pair x)) refl
 next (journal.install s) t = then-install t s (answered _ (journal.install s)) refl
 next (journal.change x) t = then-change t x (answered _ (journal.change x)) refl
 next journal.undo t = then-undo t (answered _ journal.undo) refl

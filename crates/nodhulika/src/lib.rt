@@ -1,6 +1,7 @@
 // The library for C and Rust: functions on numbers and byte slices. A record is lent as its file at the front of a buffer.
 // Each function answers by the paper's number of refusal, 0 where there is none; include/nodhulika.h is its header.
 use arguments::change_of;
+use arguments::paired_of;
 use arguments::sheet_of;
 use arguments::weighing_of;
 use words::long_of;
@@ -48,6 +49,24 @@ pub extern "C" fn nodhulika_weigh(
     ensures { λ r. ⌜ (r, now (buffer .exit)) ≡ lentCall (journal.weigh (record { m = m; p = p; q = q; a = a; b = b; n = n })) (now (buffer .entry)) ⌝ }
 {
     lent::add(buffer, weighing_of(m, p, q, a, b, n))
+}
+
+// A paired weighing.
+#[no_mangle]
+pub extern "C" fn nodhulika_weigh_paired(
+    buffer: &mut [u8],
+    m: u64,
+    p: u64,
+    q: u64,
+    p2: u64,
+    q2: u64,
+    a: i64,
+    b: u64,
+    n: u64,
+) -> u64
+    ensures { λ r. ⌜ (r, now (buffer .exit)) ≡ lentCall (journal.pair (record { m = m; p = p; q = q; p2 = p2; q2 = q2; a = a; b = b; n = n })) (now (buffer .entry)) ⌝ }
+{
+    lent::add(buffer, paired_of(m, p, q, p2, q2, a, b, n))
 }
 
 // A data sheet.
@@ -126,7 +145,7 @@ fn put_words(out: &mut [u8], x: u64, y: u64, z: u64)
     words::put_number(out, 16, 8, z);
 }
 
-// Total, moment and empty centre of gravity, into `answer`.
+// Total and moment, in half grams, and empty centre of gravity, into `answer`.
 #[no_mangle]
 pub extern "C" fn nodhulika_centre(buffer: &[u8], answer: &mut [u8]) -> u64
     ensures { λ r. ⌜ (r, now (answer .exit)) ≡ centreInto (centreFor (heldIn (now (buffer .entry)))) (now (answer .entry)) ⌝ }
