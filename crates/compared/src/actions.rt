@@ -11,6 +11,7 @@ use nodhulika::nodhulika_read;
 use nodhulika::nodhulika_sheet;
 use nodhulika::nodhulika_undo;
 use nodhulika::nodhulika_weigh;
+use nodhulika::nodhulika_weigh_paired;
 use paper::Entry;
 use script::texts::byte_at;
 use script::texts::spelled;
@@ -135,7 +136,7 @@ fn placard(line: &[u8], buffer: &[u8]) {
     text(b"\n");
 }
 
-// A weighing, a data sheet or a change.
+// A weighing, plain or paired, a data sheet or a change.
 fn enter(buffer: &mut [u8], e: Entry) -> u64 {
     match e {
         Entry::Weighing(w) => nodhulika_weigh(buffer, w.m, w.p, w.q, w.a, w.b, w.n),
@@ -158,6 +159,9 @@ fn enter(buffer: &mut [u8], e: Entry) -> u64 {
             s.water.step,
         ),
         Entry::Change(x) => nodhulika_change(buffer, x.c, x.arm, x.flag),
+        Entry::Paired(x) => {
+            nodhulika_weigh_paired(buffer, x.m, x.p, x.q, x.p2, x.q2, x.a, x.b, x.n)
+        }
     }
 }
 

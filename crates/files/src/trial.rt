@@ -9,6 +9,9 @@ use record::Kept;
 use record::Record;
 use script::texts::spelled;
 
+// The version that is written.
+const VERSION: u8 = 2;
+
 // `other` where the record's file is not s.
 fn compared(r: Record, s: &[u8]) {
     let mut out = [0u8; file::LONGEST];
@@ -18,16 +21,15 @@ fn compared(r: Record, s: &[u8]) {
     }
 }
 
-// The answer to reading into a fresh record, and whether the record then has the file that it should.
-fn answered(s: &[u8]) {
-    let k = file::read(Record::fresh(), s);
+// What reading into a fresh record answered, and whether the record then has the file that it should.
+fn answered(k: Kept, s: &[u8]) {
     text(b" ");
     if k.number == 0 {
         centre_of_gravity(k.log);
         compared(k.log, s);
     } else {
         unsigned(k.number);
-        compared(k.log, &[0, 0, 0, 2, 1, 0]);
+        compared(k.log, &[0, 0, 0, 2, VERSION, 0]);
     }
 }
 
@@ -35,7 +37,9 @@ fn answered(s: &[u8]) {
 pub fn tried(r: Record, digits: &[u8]) -> Record {
     let mut s = [0u8; 4096];
     let n = spelled(digits, &mut s);
-    answered(between(&s, 0, n));
+    let k = file::read(Record::fresh(), between(&s, 0, n));
+    s[4] = VERSION;
+    answered(k, between(&s, 0, n));
     r
 }
 

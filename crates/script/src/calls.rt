@@ -2,6 +2,7 @@
 use crate::sample::change;
 use crate::sample::lax_sheet;
 use crate::sample::ordinary_sheet;
+use crate::sample::paired;
 use crate::sample::weighing;
 use crate::stored;
 use crate::texts::byte_at;
@@ -22,12 +23,14 @@ fn called(r: Record, call: &[u8]) -> Kept {
         b'w' => r.weigh(weighing(b"m1 p300000 q30000 a10000 b500000 n100000", other)),
         b'v' => r.weigh(weighing(b"m3 p355 q90 a50 b13350 n0", other)),
         b'u' => r.weigh(weighing(b"m1 p200000 q0 a0 b1 n100000", other)),
+        b'p' => r.weigh_paired(paired(other)),
         b's' => r.install(ordinary_sheet(other)),
         b'l' => r.install(lax_sheet(other)),
         b'c' => r.change(change(other)),
         b'r' => stored::read_again(r),
-        b'g' => stored::read_g(r, 89),
-        b'x' => stored::read_g(r, 88),
+        b'g' => stored::read_g(r, 2, 89),
+        b'x' => stored::read_g(r, 2, 88),
+        b'o' => stored::read_g(r, 1, 89),
         b'-' => r.undo(),
         _ => fresh(),
     }

@@ -3,6 +3,7 @@ use crate::texts::number;
 use crate::texts::place_of;
 use crate::texts::signed;
 use paper::Change;
+use paper::Paired;
 use paper::Sheet;
 use paper::Station;
 use paper::Weighing;
@@ -43,6 +44,25 @@ pub fn weighing(ordinary: &[u8], other: &[u8]) -> Weighing {
         a: signed(x[3]),
         b: x[4],
         n: x[5],
+    }
+}
+
+// A paired weighing by the paper's letters, m p q a b n, and P and Q for p' and q'.
+pub fn paired(other: &[u8]) -> Paired {
+    let x = fields(
+        b"mpqPQabn",
+        b"m1 p300000 q30000 P300000 Q30000 a10000 b500000 n100000",
+        other,
+    );
+    Paired {
+        m: x[0],
+        p: x[1],
+        q: x[2],
+        p2: x[3],
+        q2: x[4],
+        a: signed(x[5]),
+        b: x[6],
+        n: x[7],
     }
 }
 
