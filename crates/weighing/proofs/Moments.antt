@@ -1,12 +1,13 @@
--- The moment of a weighing as what turns aft less what turns forward: each method by the two sides u and d of the distance a.
--- Assumes nothing.
+-- The moment of a reading as what turns aft less what turns forward: each method by the two sides u and d of the distance a,
+-- and two readings by adding their sides. Assumes nothing.
 use mathlib.Core.Path.{_≡_, ap}
 use Prim.Native.Nat.{ℕ, _+_, _-_, _*_, _≤_}
 use native.Mathlib.Omega.{arith}
-use lib.IntN.{pos, _-ℤ_}
-use Rattle.laws.specs.Z.{zs, Is, SidesOf, is-sides, is-nat, is-add, is-sub, is-mul}
+use lib.IntN.{ℤ, pos, _+ℤ_, _-ℤ_}
+use Rattle.laws.specs.Z.{zs, Is, SidesOf, is-sides, is-nat, is-int, is-add, is-sub, is-mul}
 use Rattle.paper.specs.declared.Weighing.{Weighing}
 use Rattle.paper.specs.Record.{totalOf, momentOf}
+use Rattle.weighing.specs.declared.Moment.{Moment}
 
 module _ (w : Weighing) (u d x y : ℕ) (e : SidesOf (w .a) u d) where
   -- what the contract says
@@ -64,3 +65,15 @@ module _ (w : Weighing) (u d x y : ℕ) (e : SidesOf (w .a) u d) where
           times d,
           is-sub (is-mul (is-sub (is-nat (w .p)) (is-nat (w .q))) a) (is-mul (is-nat (w .q)) (is-nat (w .b))),
         ))
+
+-- the sides of two moments added up
+pub added : (m k : Moment) {x y : ℤ} → pos (m .aft) -ℤ pos (m .fore) ≡ x → pos (k .aft) -ℤ pos (k .fore) ≡ y → pos (m .aft + k .aft) -ℤ pos (m .fore + k .fore) ≡ x +ℤ y
+added m k {x} {y} e f =
+    omega (
+      arith,
+      zs,
+      is-sub (is-nat (m .aft)) (is-nat (m .fore)),
+      is-sub (is-nat (k .aft)) (is-nat (k .fore)),
+      is-sub (is-nat (m .aft + k .aft)) (is-nat (m .fore + k .fore)),
+      is-add (is-int x) (is-int y),
+    )

@@ -1,6 +1,6 @@
 -- The condition of number 1 by method, each way by computing its tests, and what a weighing without it has. Assumes nothing.
 use mathlib.Core.Path.{_≡_, sym, _∙_}
-use mathlib.Core.Bool.{true, false, not, _&&_, _||_, and-true, or-true, true≢false}
+use mathlib.Core.Bool.{Bool, true, false, not, _&&_, _||_, and-true, or-true, true≢false}
 use mathlib.Core.List.{[], _∷_}
 use Prim.Native.Nat.{ℕ, _+_, _-_, _≤_, _<_}
 use native.Mathlib.Decide.{decLe, ℕ-discrete}
@@ -9,20 +9,19 @@ use lib.Dec.{leb, ltb, leb·zero}
 use lib.IntN.{pos, negsuc, _-ℤ_}
 use lib.Signed.{leZ, _≤ℤ_}
 use borrow.Author.Tests.{le-leb, lt-leb, leb-true, leb-false, ltb-false, not-false}
-use Rattle.laws.specs.Tests.{left, right, isnt, not-left, not-right}
+use Rattle.laws.specs.Tests.{left, right, isnt, not-left, not-right, ltb-not}
 use Rattle.laws.specs.Z.{zs, goal-leZ, goal-nleZ, is-nat, is-sub}
 use Rattle.paper.proofs.Numbers.{no-first, no-other}
 use Rattle.paper.proofs.Units.{arm-range}
 use Rattle.paper.specs.declared.Weighing.{Weighing}
-use Rattle.paper.specs.Units.{isWeight, isArm}
-use Rattle.paper.specs.Record.{totalOf, weighed}
-use Rattle.paper.specs.Refusals.{isTotal, isNonLifting, badReading, badDistance, _when_, firstNumber, weighingFaults}
+use Rattle.paper.specs.Units.{between, isWeight, isArm}
+use Rattle.paper.specs.Record.{Readings, totalOf}
+use Rattle.paper.specs.Refusals.{badReading, badDistance, badPart, either, _when_, firstNumber, weighingFaults}
 
 -- a difference as a total
-lift : (p q : ℕ) → p ≤ 2000000 → not (isTotal (pos p -ℤ pos q)) ≡ leb p q
-unfolding isTotal
+lift : (p q : ℕ) → p ≤ 2000000 → not (between (pos 1) (pos 2000000) (pos p -ℤ pos q)) ≡ leb p q
 lift p q h =
-    elim (decLe p q) as (λ d. not (isTotal (pos p -ℤ pos q)) ≡ leb p q) [
+    elim (decLe p q) as (λ d. not (between (pos 1) (pos 2000000) (pos p -ℤ pos q)) ≡ leb p q) [
       | yes k ↦ let low : leZ (pos 1) (pos p -ℤ pos q) ≡ false = goal-nleZ (pos 1) (pos p -ℤ pos q) (omega (arith, is-sub (is-nat p) (is-nat q))) in simp (low, le-leb p q k)
       | no k ↦ let low : leZ (pos 1) (pos p -ℤ pos q) ≡ true = goal-leZ (pos 1) (pos p -ℤ pos q) (omega (arith, is-sub (is-nat p) (is-nat q))) in let high : leZ (pos p -ℤ pos q) (pos 2000000) ≡ true = goal-leZ (pos p -ℤ pos q) (pos 2000000) (omega (arith, is-sub (is-nat p) (is-nat q))) in simp (low, high, lt-leb p q (omega arith))
     ]
@@ -38,15 +37,15 @@ module _ (w : Weighing) where
 
   module _ (hp : w .p ≤ 2000000) (hq : w .q ≤ 2000000) where
     pub method-1 : w .m ≡ 1 → badReading w ≡ (ltb (w .p) (w .q) || not (leb 1 (w .p)))
-    unfolding badReading isWeight isTotal totalOf
+    unfolding badReading isWeight totalOf
     method-1 e = simp (e, le-leb (w .p) 2000000 hp, le-leb (w .q) 2000000 hq, and-true)
 
     pub method-2 : w .m ≡ 2 → badReading w ≡ (ltb (w .p) (w .q) || not (leb 1 (w .p)))
-    unfolding badReading isWeight isTotal totalOf
+    unfolding badReading isWeight totalOf
     method-2 e = simp (e, le-leb (w .p) 2000000 hp, le-leb (w .q) 2000000 hq, and-true)
 
     pub method-3 : w .m ≡ 3 → badReading w ≡ not (leb 1 (w .p + w .q) && leb (w .p + w .q) 2000000)
-    unfolding badReading isWeight isTotal totalOf
+    unfolding badReading isWeight totalOf
     method-3 e = simp (e, le-leb (w .p) 2000000 hp, le-leb (w .q) 2000000 hq)
 
     pub method-4 : w .m ≡ 4 → badReading w ≡ leb (w .p) (w .q)
@@ -124,9 +123,9 @@ module _ (w : Weighing) (fine : badReading w ≡ false) where
       )
 
 -- number 3's condition, once G is known
-pub n-test : (w : Weighing) (r : ℕ) → pos r ≡ totalOf w → isNonLifting (weighed w) ≡ leb (w .n) r
-unfolding isNonLifting weighed
-n-test w r e = simp (← e, leb·zero)
+pub n-test : (w : Weighing) (r : ℕ) → pos r ≡ totalOf w → badPart w ≡ ltb r (w .n)
+unfolding badPart
+n-test w r e = simp (← e, leb·zero, ltb-not)
 
 -- what a weighing without number 2's condition has
 module _ (w : Weighing) (near : badDistance w ≡ false) where
@@ -141,19 +140,25 @@ module _ (w : Weighing) (near : badDistance w ≡ false) where
   unfolding badDistance
   a-range = arm-range (w .a) (not-false _ (not-left (not (isArm (w .a))) (not (leb 1 (w .b) && leb (w .b) 2000000)) near))
 
--- a weighing that gets no number behind 9
-module _ (w : Weighing) (clear : firstNumber (weighingFaults w) ≡ 0) where
-  behind-1 : firstNumber (2 when badDistance w ∷ 3 when not (isNonLifting (weighed w)) ∷ []) ≡ 0
+-- two readings that get no number behind 9
+module _ (x : Readings) (clear : firstNumber (weighingFaults x) ≡ 0) where
+  behind-1 : firstNumber (2 when either badDistance x ∷ 3 when either badPart x ∷ []) ≡ 0
   unfolding weighingFaults
-  behind-1 = no-other 1 (badReading w) _ (omega arith) clear
+  behind-1 = no-other 1 (either badReading x) _ (omega arith) clear
 
-  pub reading-fine : badReading w ≡ false
+  behind-2 : firstNumber (3 when either badPart x ∷ []) ≡ 0
+  behind-2 = no-other 2 (either badDistance x) _ (omega arith) behind-1
+
+  -- neither reading has a condition that does not hold of either
+  neither : (q : Weighing → Bool) → either q x ≡ false → (q (x .first) ≡ false) × (q (x .second) ≡ false)
+  neither q e = (not-left (q (x .first)) (q (x .second)) e, not-right (q (x .first)) (q (x .second)) e)
+
+  pub reading-fine : (badReading (x .first) ≡ false) × (badReading (x .second) ≡ false)
   unfolding weighingFaults
-  reading-fine = no-first 1 (badReading w) _ (omega arith) clear
+  reading-fine = neither badReading (no-first 1 (either badReading x) _ (omega arith) clear)
 
-  pub distance-fine : badDistance w ≡ false
-  distance-fine = no-first 2 (badDistance w) _ (omega arith) behind-1
+  pub distance-fine : (badDistance (x .first) ≡ false) × (badDistance (x .second) ≡ false)
+  distance-fine = neither badDistance (no-first 2 (either badDistance x) _ (omega arith) behind-1)
 
-  pub n-fine : isNonLifting (weighed w) ≡ true
-  n-fine =
-      not-false _ (no-first 3 (not (isNonLifting (weighed w))) [] (omega arith) (no-other 2 (badDistance w) _ (omega arith) behind-1))
+  pub n-fine : (badPart (x .first) ≡ false) × (badPart (x .second) ≡ false)
+  n-fine = neither badPart (no-first 3 (either badPart x) [] (omega arith) behind-2)

@@ -1,2 +1,3 @@
--- What the methods of a weighing ask and say.
+-- What the methods of a weighing ask and say, and two readings that count together.
 pub mod Moments
+pub mod Readings

@@ -3,8 +3,11 @@ use mathlib.Core.Path.{_≡_}
 use Prim.Native.Nat.{ℕ, _≤_}
 use Rattle.laws.specs.declared.Sides.{Sides}
 use Rattle.paper.specs.declared.Weighing.{Weighing}
-use Rattle.balance.specs.Balance.{twoProducts}
 use Rattle.weighing.specs.declared.Moment.{Moment}
+
+-- two products of a weight and an arm: what a reading adds to a side of the moment at most, in grams
+abbrev pub twoProducts : ℕ
+twoProducts = 32000000000000
 
 -- the readings, the distance b and the sides of the distance a
 pub record InRange (w : Weighing) (a : Sides) : Type 0 where

@@ -1,7 +1,8 @@
-// What a weighing says: its number of refusal, and its balance.
+// What a weighing says, plain or paired: its number of refusal, and its balance.
 use balance::Balance;
 use laws::Sides;
 use paper::Arm;
+use paper::Paired;
 use paper::Weighing;
 use paper::Weight;
 ghost use mathlib.Core.Path.{_≡_};
@@ -10,9 +11,10 @@ ghost use Prim.Native.Nat.{_+_, _-_, _*_, _≤_};
 ghost use lib.Dec.{leb, ltb};
 ghost use lib.IntN.{pos, _-ℤ_};
 ghost use Rattle.paper.specs.Record as paper;
-ghost use Rattle.paper.specs.Refusals.{badReading, badDistance, weighingFaults, firstNumber};
-ghost use Rattle.weighing.specs.Moments.{InRange, Turns};
-ghost use Rattle.balance.specs.Balance.{twoProducts, plain, Bounded};
+ghost use Rattle.paper.specs.Refusals.{badReading, badDistance, badPart, weighingFaults, firstNumber};
+ghost use Rattle.weighing.specs.Moments.{twoProducts, InRange, Turns};
+ghost use Rattle.weighing.specs.Readings.{both};
+ghost use Rattle.balance.specs.Balance.{plain, Bounded};
 
 // Number 1's condition of the readings in methods 1 and 2, where p is the total and q a part of it.
 fn bad_part(p: u64, q: u64) -> bool
@@ -73,7 +75,7 @@ fn bad_distance(w: Weighing) -> bool
     Arm::DISTANCE_MOST < w.b
 }
 
-// G.
+// G, in grams.
 fn total(w: Weighing) -> u64
     requires { ⌜ badReading w ≡ false ⌝ }
     ensures { λ r. ⌜ (pos r ≡ paper.totalOf w) × (1 ≤ r) × (r ≤ 2000000) ⌝ }
@@ -90,22 +92,72 @@ fn total(w: Weighing) -> u64
     w.p - w.q
 }
 
-// The number of refusal behind 9.
-pub fn number(w: Weighing) -> u64
-    ensures { λ r. ⌜ r ≡ firstNumber (weighingFaults w) ⌝ }
+// Number 3's condition.
+fn bad_nonlifting(w: Weighing) -> bool
+    requires { ⌜ badReading w ≡ false ⌝ }
+    ensures { λ r. ⌜ r ≡ badPart w ⌝ }
 {
-    let reading = bad_reading(w);
-    let distance = bad_distance(w);
+    total(w) < w.n
+}
+
+// The number of refusal of two readings behind 9: by number, and not reading by reading.
+fn number_of(first: Weighing, second: Weighing) -> u64
+    ensures { λ r. ⌜ r ≡ firstNumber (weighingFaults (both first second)) ⌝ }
+{
+    let reading = bad_reading(first) | bad_reading(second);
+    let distance = bad_distance(first) | bad_distance(second);
     if reading {
         return 1;
     }
     if distance {
         return 2;
     }
-    if total(w) < w.n {
+    if bad_nonlifting(first) | bad_nonlifting(second) {
         return 3;
     }
     0
+}
+
+// The first reading of a paired weighing, as a plain one.
+fn first_of(x: Paired) -> Weighing
+    ensures { λ r. ⌜ r ≡ paper.paired x .first ⌝ }
+{
+    Weighing {
+        m: x.m,
+        p: x.p,
+        q: x.q,
+        a: x.a,
+        b: x.b,
+        n: x.n,
+    }
+}
+
+// The second.
+fn second_of(x: Paired) -> Weighing
+    ensures { λ r. ⌜ r ≡ paper.paired x .second ⌝ }
+{
+    Weighing {
+        m: x.m,
+        p: x.p2,
+        q: x.q2,
+        a: x.a,
+        b: x.b,
+        n: x.n,
+    }
+}
+
+// The number of refusal behind 9.
+pub fn number(w: Weighing) -> u64
+    ensures { λ r. ⌜ r ≡ firstNumber (weighingFaults (paper.alike w)) ⌝ }
+{
+    number_of(w, w)
+}
+
+// That of a paired weighing.
+pub fn paired_number(x: Paired) -> u64
+    ensures { λ r. ⌜ r ≡ firstNumber (weighingFaults (paper.paired x)) ⌝ }
+{
+    number_of(first_of(x), second_of(x))
 }
 
 // A moment as what turns aft and what turns forward.
@@ -158,7 +210,7 @@ fn held_down(w: Weighing, a: Sides) -> Moment
     }
 }
 
-// M.
+// M, in grams.
 fn moment_of(w: Weighing) -> Moment
     requires { ⌜ (badReading w ≡ false) × (badDistance w ≡ false) ⌝ }
     ensures { λ r. ⌜ (pos (r .aft) -ℤ pos (r .fore) ≡ paper.momentOf w) × (r .aft ≤ twoProducts) × (r .fore ≤ twoProducts) ⌝ }
@@ -176,16 +228,37 @@ fn moment_of(w: Weighing) -> Moment
     held_down(w, a)
 }
 
-// G, M and n.
-pub fn weighed(w: Weighing) -> Balance
-    requires { ⌜ firstNumber (weighingFaults w) ≡ 0 ⌝ }
-    ensures { λ r. ⌜ (plain r ≡ paper.weighed w) × Bounded 1 r ⌝ }
+// Two readings added up: their G, M and n in grams give those of the glider in half grams.
+fn sum(first: Weighing, second: Weighing) -> Balance
+    requires { ⌜ firstNumber (weighingFaults (both first second)) ≡ 0 ⌝ }
+    ensures { λ r. ⌜ (plain r ≡ paper.weighed (both first second)) × Bounded 1 r ⌝ }
 {
-    let m = moment_of(w);
+    let m = moment_of(first);
+    let k = moment_of(second);
+    let total = total(first) + total(second);
+    let aft = m.aft + k.aft;
+    let fore = m.fore + k.fore;
+    let nonlifting = first.n + second.n;
     Balance {
-        total: total(w),
-        aft: m.aft,
-        fore: m.fore,
-        nonlifting: w.n,
+        total,
+        aft,
+        fore,
+        nonlifting,
     }
+}
+
+// G, M and n: a plain weighing counts as the pair of itself with itself.
+pub fn weighed(w: Weighing) -> Balance
+    requires { ⌜ firstNumber (weighingFaults (paper.alike w)) ≡ 0 ⌝ }
+    ensures { λ r. ⌜ (plain r ≡ paper.weighed (paper.alike w)) × Bounded 1 r ⌝ }
+{
+    sum(w, w)
+}
+
+// Those of a paired weighing.
+pub fn paired(x: Paired) -> Balance
+    requires { ⌜ firstNumber (weighingFaults (paper.paired x)) ≡ 0 ⌝ }
+    ensures { λ r. ⌜ (plain r ≡ paper.weighed (paper.paired x)) × Bounded 1 r ⌝ }
+{
+    sum(first_of(x), second_of(x))
 }
