@@ -10,10 +10,10 @@ use lib.IntN.{ℤ, pos, negsuc, natAbs, _+ℤ_, _-ℤ_, _*ℤ_}
 use lib.Signed.{leZ, ltZ, _≤ℤ_}
 use borrow.Author.Tests.{not-false, eq-eqb, ne-eqb}
 use Rattle.laws.specs.Tests.{both, left, right, left-fails, right-fails, left-passes, not-left, not-right, turned, turned-no}
-use Rattle.laws.specs.Z.{zs, is-nat, is-int, is-add, is-sub, abs-eq, goal-leZ, goal-nleZ}
+use Rattle.laws.specs.Z.{zs, is-nat, is-int, is-add, is-sub, is-mul, abs-eq, goal-leZ, goal-nleZ}
 use Rattle.paper.proofs.Numbers.{no-first, no-other}
 use Rattle.paper.specs.declared.Change.{Change}
-use Rattle.paper.specs.Units.{between, isArm}
+use Rattle.paper.specs.Units.{between, isArm, halfGrams}
 use Rattle.paper.specs.Record as paper
 use Rattle.paper.specs.Refusals.{isTotal, isNonLifting, isChange, isNone, afterwards, badChange, changeFaults, firstNumber, _when_}
 use Rattle.balance.specs.declared.Balance.{Balance}
@@ -71,37 +71,47 @@ module _ (x : Change) where
 
 -- ---- what a change makes of G and n
 
--- what of c counts as non-lifting
-abbrev pub part : Change → ℤ
-part x = cond (eqb (x .flag) 1) (x .c) (pos 0)
+-- what it adds, in half grams, and what of that counts as non-lifting
+abbrev pub gain : Change → ℤ
+gain x = halfGrams (x .c)
 
-all-or-none : (t : Bool) (z : ℤ) → (negsuc 1999999 ≤ℤ z) × (z ≤ℤ pos 2000000) → (negsuc 1999999 ≤ℤ cond t z (pos 0)) × (cond t z (pos 0) ≤ℤ pos 2000000)
+abbrev pub part : Change → ℤ
+part x = cond (eqb (x .flag) 1) (gain x) (pos 0)
+
+pub gain-range : (x : Change) → isChange x ≡ true → (negsuc 3999999 ≤ℤ gain x) × (gain x ≤ℤ pos 4000000)
+unfolding halfGrams
+gain-range x e =
+    let r = c-range x e in
+    let d = is-mul (is-nat 2) (is-int (x .c)) in
+    (omega (arith, zs, r .0, d), omega (arith, zs, r .1, d))
+
+all-or-none : (t : Bool) (z : ℤ) → (negsuc 3999999 ≤ℤ z) × (z ≤ℤ pos 4000000) → (negsuc 3999999 ≤ℤ cond t z (pos 0)) × (cond t z (pos 0) ≤ℤ pos 4000000)
 all-or-none true z r = r
 all-or-none false z r = (omega (arith, zs), omega (arith, zs))
 
-pub part-range : (x : Change) → isChange x ≡ true → (negsuc 1999999 ≤ℤ part x) × (part x ≤ℤ pos 2000000)
-part-range x e = all-or-none (eqb (x .flag) 1) (x .c) (c-range x e)
+pub part-range : (x : Change) → isChange x ≡ true → (negsuc 3999999 ≤ℤ part x) × (part x ≤ℤ pos 4000000)
+part-range x e = all-or-none (eqb (x .flag) 1) (gain x) (gain-range x e)
 
 module _ (b : Balance) (x : Change) where
-  pub total-test : (t : ℤ) → t ≡ pos (b .total) +ℤ x .c → between (pos 1) (pos 2000000) t ≡ isTotal (paper.changed (plain b) x .total)
-  unfolding isTotal paper.changed
-  total-test t e = ap (between (pos 1) (pos 2000000)) e
+  pub total-test : (t : ℤ) → t ≡ pos (b .total) +ℤ gain x → between (pos 2) (pos 4000000) t ≡ isTotal (paper.changed (plain b) x)
+  unfolding isTotal paper.changed paper.with halfGrams
+  total-test t e = ap (between (pos 2) (pos 4000000)) e
 
-  pub part-test : (t n : ℤ) → t ≡ pos (b .total) +ℤ x .c → n ≡ pos (b .nonlifting) +ℤ part x → between (pos 0) t n ≡ isNonLifting (paper.changed (plain b) x)
-  unfolding isNonLifting paper.changed
+  pub part-test : (t n : ℤ) → t ≡ pos (b .total) +ℤ gain x → n ≡ pos (b .nonlifting) +ℤ part x → between (pos 0) t n ≡ isNonLifting (paper.changed (plain b) x)
+  unfolding isNonLifting paper.changed paper.with
   part-test t n e f = ap₂ (between (pos 0)) e f
 
 -- the code's new balance is the paper's
-pub after-is : (b r : Balance) (x : Change) (u d : ℕ) → pos (r .total) ≡ pos (b .total) +ℤ x .c → pos (r .nonlifting) ≡ pos (b .nonlifting) +ℤ part x
-    → x .c *ℤ x .arm ≡ pos u -ℤ pos d → r .aft ≡ b .aft + u → r .fore ≡ b .fore + d → plain r ≡ paper.changed (plain b) x
-unfolding paper.changed
+pub after-is : (b r : Balance) (x : Change) (u d : ℕ) → pos (r .total) ≡ pos (b .total) +ℤ gain x → pos (r .nonlifting) ≡ pos (b .nonlifting) +ℤ part x
+    → gain x *ℤ x .arm ≡ pos u -ℤ pos d → r .aft ≡ b .aft + u → r .fore ≡ b .fore + d → plain r ≡ paper.changed (plain b) x
+unfolding paper.changed paper.with
 after-is b r x u d et en em ea ef =
-    let moment : pos (r .aft) -ℤ pos (r .fore) ≡ pos (b .aft) -ℤ pos (b .fore) +ℤ x .c *ℤ x .arm =
+    let moment : pos (r .aft) -ℤ pos (r .fore) ≡ pos (b .aft) -ℤ pos (b .fore) +ℤ gain x *ℤ x .arm =
     omega (
       arith,
       zs,
       is-sub (is-nat (r .aft)) (is-nat (r .fore)),
-      is-add (is-sub (is-nat (b .aft)) (is-nat (b .fore))) (is-int (x .c *ℤ x .arm)),
+      is-add (is-sub (is-nat (b .aft)) (is-nat (b .fore))) (is-int (gain x *ℤ x .arm)),
       is-sub (is-nat u) (is-nat d),
     ) in
     λ k. record { total = et k; moment = moment k; nonLifting = en k }
@@ -121,15 +131,15 @@ module _ (b : Balance) (x : Change) where
   change-bad e f = simp (e, f)
 
   module _ (e : isArm (x .arm) ≡ true) (f : isChange x ≡ true) where
-    pub total-bad : isTotal (paper.changed (plain b) x .total) ≡ false → Number 6
+    pub total-bad : isTotal (paper.changed (plain b) x) ≡ false → Number 6
     unfolding firstNumber changeFaults isNone badChange afterwards
     total-bad g = simp (e, f, g)
 
-    pub part-bad : isTotal (paper.changed (plain b) x .total) ≡ true → isNonLifting (paper.changed (plain b) x) ≡ false → Number 3
+    pub part-bad : isTotal (paper.changed (plain b) x) ≡ true → isNonLifting (paper.changed (plain b) x) ≡ false → Number 3
     unfolding firstNumber changeFaults isNone badChange afterwards
     part-bad g h = simp (e, f, g, h)
 
-    pub all-fine : isTotal (paper.changed (plain b) x .total) ≡ true → isNonLifting (paper.changed (plain b) x) ≡ true → Number 0
+    pub all-fine : isTotal (paper.changed (plain b) x) ≡ true → isNonLifting (paper.changed (plain b) x) ≡ true → Number 0
     unfolding firstNumber changeFaults isNone badChange afterwards
     all-fine g h = simp (e, f, g, h)
 
@@ -152,9 +162,9 @@ module _ (b : Balance) (x : Change) where
     unfolding badChange
     change-fine = not-false _ (not-left (not (isChange x)) _ sound)
 
-    pub total-fine : isTotal (paper.changed (plain b) x .total) ≡ true
+    pub total-fine : isTotal (paper.changed (plain b) x) ≡ true
     unfolding badChange afterwards
-    total-fine = not-false _ (not-right (not (isChange x)) (not (isTotal (paper.changed (plain b) x .total))) sound)
+    total-fine = not-false _ (not-right (not (isChange x)) (not (isTotal (paper.changed (plain b) x))) sound)
 
     pub part-fine : isNonLifting (paper.changed (plain b) x) ≡ true
     part-fine =
@@ -162,8 +172,8 @@ module _ (b : Balance) (x : Change) where
         (no-first 3 (not (isNonLifting (paper.changed (plain b) x))) [] (omega arith) (no-other 6 (badChange (some (plain b)) x) _ (omega arith) later))
 
     -- the ranges of G and n afterwards
-    pub total-range : (pos 1 ≤ℤ (pos (b .total) +ℤ x .c)) × ((pos (b .total) +ℤ x .c) ≤ℤ pos 2000000)
-    total-range = ranged (total-test b x (pos (b .total) +ℤ x .c) refl ∙ total-fine)
+    pub total-range : (pos 2 ≤ℤ (pos (b .total) +ℤ gain x)) × ((pos (b .total) +ℤ gain x) ≤ℤ pos 4000000)
+    total-range = ranged (total-test b x (pos (b .total) +ℤ gain x) refl ∙ total-fine)
 
-    pub part-within : (pos 0 ≤ℤ (pos (b .nonlifting) +ℤ part x)) × ((pos (b .nonlifting) +ℤ part x) ≤ℤ (pos (b .total) +ℤ x .c))
-    part-within = ranged (part-test b x (pos (b .total) +ℤ x .c) (pos (b .nonlifting) +ℤ part x) refl refl ∙ part-fine)
+    pub part-within : (pos 0 ≤ℤ (pos (b .nonlifting) +ℤ part x)) × ((pos (b .nonlifting) +ℤ part x) ≤ℤ (pos (b .total) +ℤ gain x))
+    part-within = ranged (part-test b x (pos (b .total) +ℤ gain x) (pos (b .nonlifting) +ℤ part x) refl refl ∙ part-fine)

@@ -9,12 +9,12 @@ use Rattle.change.proofs.counted.Tie as tie
 
 returns : tie.Need-returns
 returns c =
-    let flagged : eqb (c .before .before .before .args .x .flag) 1 ≡ true = eq-eqb _ 1 (c .before .if1 .taken) in
-    rw (toZ-ofZ (record { sfits = c .struct-told .given .0 .1 }), flagged) refl
+    let flagged : eqb (c .before .args .flag) 1 ≡ true = eq-eqb _ 1 (c .if1 .taken) in
+    rw (toZ-ofZ (c .before .fits .gain), flagged) refl
 
 returns-2 : tie.Need-returns-2
 returns-2 c =
-    let plain : eqb (c .before .before .args .x .flag) 1 ≡ false = ne-eqb _ 1 (c .if1 .left) in rw plain refl
+    let plain : eqb (c .before .args .flag) 1 ≡ false = ne-eqb _ 1 (c .if1 .left) in rw plain refl
 
 pub counted-spec : {M : Type 1} → statement M
 counted-spec = tie.close (tie.spec returns returns-2)

@@ -10,13 +10,13 @@ use Rattle.change.proofs.moment_of.Tie as tie
 
 -- the product of what is read back from the bits, which is the product
 abbrev product : tie.Start → ℤ
-product c = rd (c .args .c) *ℤ rd (c .args .arm)
+product c = rd (c .args .gain) *ℤ rd (c .args .arm)
 
-same : (c : tie.Start) → product c ≡ c .args .c *ℤ c .args .arm
-same c = ap₂ _*ℤ_ (toZ-ofZ (c .fits .c)) (toZ-ofZ (c .fits .arm))
+same : (c : tie.Start) → product c ≡ c .args .gain *ℤ c .args .arm
+same c = ap₂ _*ℤ_ (toZ-ofZ (c .fits .gain)) (toZ-ofZ (c .fits .arm))
 
 bound : (c : tie.Start) → Small (product c)
-bound c = subst Small (sym (same c)) (small (c .args .c) (c .args .arm) (c .pre .0) (c .pre .1) (c .pre .2) (c .pre .3))
+bound c = subst Small (sym (same c)) (small (c .args .gain) (c .args .arm) (c .pre .0) (c .pre .1) (c .pre .2) (c .pre .3))
 
 mul-m : tie.Need-mul-m
 mul-m c = omega (arith, zs, bound c .high, bound c .low)
