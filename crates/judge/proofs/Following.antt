@@ -3,20 +3,19 @@ use mathlib.Core.Path.{_≡_, refl, _∙_, ap}
 use mathlib.Core.List.{List, [], _∷_, _++_}
 use mathlib.Core.Option.{Option, none, some, Option·map, orElse}
 use lib.ListN.{length}
-use Rattle.paper.specs.declared.Weighing.{Weighing}
 use Rattle.paper.specs.declared.Sheet.{Sheet}
 use Rattle.paper.specs.declared.Change.{Change}
 use Rattle.paper.specs.declared.Entry.{Entry}
 use Rattle.paper.specs.declared.Entry.the-variants as entry
-use Rattle.paper.specs.Record.{Balance, weighed, changed, changedBy, changesOf, opened, lastWeighing, balanceOf}
+use Rattle.paper.specs.Record.{Balance, Readings, alike, paired, weighed, changed, changedBy, changesOf, opened, lastWeighing, balanceOf}
 use Rattle.paper.specs.Refusals.{full, weighingNumber, sheetNumber, changeNumber, entryNumber}
 use Rattle.judge.specs.Standing.{numberAt, after}
 
--- a weighing is the last
-last-weighing : (es : List Entry) (w : Weighing) → lastWeighing (es ++ entry.Weighing w ∷ []) ≡ some (w, [])
+-- a weighing, plain or paired, is the last
+last-opened : (es : List Entry) (e : Entry) (x : Readings) → opened e [] ≡ some (x, []) → lastWeighing (es ++ e ∷ []) ≡ some (x, [])
 unfolding lastWeighing orElse changesOf
-last-weighing [] w = refl
-last-weighing (f ∷ es) w = ap (λ o. orElse o (opened f (changesOf (es ++ entry.Weighing w ∷ [])))) (last-weighing es w)
+last-opened [] e x h = h
+last-opened (f ∷ es) e x h = ap (λ o. orElse o (opened f (changesOf (es ++ e ∷ [])))) (last-opened es e x h)
 
 -- a sheet cuts nothing off
 changes-sheet : (es : List Entry) (s : Sheet) → changesOf (es ++ entry.Sheet s ∷ []) ≡ changesOf es
@@ -25,6 +24,7 @@ changes-sheet [] s = refl
 changes-sheet (entry.Weighing w ∷ es) s = changes-sheet es s
 changes-sheet (entry.Sheet t ∷ es) s = changes-sheet es s
 changes-sheet (entry.Change x ∷ es) s = ap (λ xs. x ∷ xs) (changes-sheet es s)
+changes-sheet (entry.Paired x ∷ es) s = changes-sheet es s
 
 last-sheet : (es : List Entry) (s : Sheet) → lastWeighing (es ++ entry.Sheet s ∷ []) ≡ lastWeighing es
 unfolding lastWeighing orElse changesOf
@@ -38,16 +38,18 @@ changes-change [] x = refl
 changes-change (entry.Weighing w ∷ es) x = changes-change es x
 changes-change (entry.Sheet s ∷ es) x = changes-change es x
 changes-change (entry.Change y ∷ es) x = ap (λ xs. y ∷ xs) (changes-change es x)
+changes-change (entry.Paired y ∷ es) x = changes-change es x
 
-abbrev more : Change → Weighing × List Change → Weighing × List Change
+abbrev more : Change → Readings × List Change → Readings × List Change
 more x p = (p .0, p .1 ++ x ∷ [])
 
 opened-more : (f : Entry) (xs : List Change) (x : Change) → opened f (xs ++ x ∷ []) ≡ Option·map (more x) (opened f xs)
 opened-more (entry.Weighing w) xs x = refl
 opened-more (entry.Sheet s) xs x = refl
 opened-more (entry.Change y) xs x = refl
+opened-more (entry.Paired y) xs x = refl
 
-first-of : (o : Option (Weighing × List Change)) (f : Entry) (xs : List Change) (x : Change) → orElse (Option·map (more x) o) (opened f (xs ++ x ∷ [])) ≡ Option·map (more x) (orElse o (opened f xs))
+first-of : (o : Option (Readings × List Change)) (f : Entry) (xs : List Change) (x : Change) → orElse (Option·map (more x) o) (opened f (xs ++ x ∷ [])) ≡ Option·map (more x) (orElse o (opened f xs))
 unfolding orElse
 first-of none f xs x = opened-more f xs x
 first-of (some p) f xs x = refl
@@ -63,19 +65,20 @@ changed-more b [] x = refl
 changed-more b (y ∷ xs) x = changed-more (changed b y) xs x
 
 -- the balance of what is known of the last weighing
-abbrev said : Weighing × List Change → Balance
+abbrev said : Readings × List Change → Balance
 said p = changedBy (weighed (p .0)) (p .1)
 
-said-more : (o : Option (Weighing × List Change)) (x : Change) → Option·map said (Option·map (more x) o) ≡ Option·map (λ (b : Balance). changed b x) (Option·map said o)
+said-more : (o : Option (Readings × List Change)) (x : Change) → Option·map said (Option·map (more x) o) ≡ Option·map (λ (b : Balance). changed b x) (Option·map said o)
 said-more none x = refl
 said-more (some p) x = ap {B = Option Balance} some (changed-more (weighed (p .0)) (p .1) x)
 
 -- the balance of a list with one entry more
 pub balance-more : (es : List Entry) (e : Entry) → balanceOf (es ++ e ∷ []) ≡ after (balanceOf es) e
 unfolding balanceOf changedBy
-balance-more es (entry.Weighing w) = ap (Option·map said) (last-weighing es w)
+balance-more es (entry.Weighing w) = ap (Option·map said) (last-opened es (entry.Weighing w) (alike w) refl)
 balance-more es (entry.Sheet s) = ap (Option·map said) (last-sheet es s)
 balance-more es (entry.Change x) = ap (Option·map said) (last-change es x) ∙ said-more (lastWeighing es) x
+balance-more es (entry.Paired x) = ap (Option·map said) (last-opened es (entry.Paired x) (paired x) refl)
 
 -- the number that an entry gets on a list goes by the list's length and balance
 pub number-at : (es : List Entry) (e : Entry) → entryNumber es e ≡ numberAt (length es) (balanceOf es) e
@@ -83,3 +86,4 @@ unfolding entryNumber numberAt weighingNumber sheetNumber changeNumber full
 number-at es (entry.Weighing w) = refl
 number-at es (entry.Sheet s) = refl
 number-at es (entry.Change x) = refl
+number-at es (entry.Paired x) = refl

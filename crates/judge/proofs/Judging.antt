@@ -12,8 +12,7 @@ use Rattle.paper.specs.Refusals.{isNone, changeFaults, firstNumber}
 use Rattle.balance.specs.declared.Balance.{Balance}
 use Rattle.judge.specs.declared.Standing.{Standing}
 use Rattle.judge.specs.declared.Standing.the-variants.{Unweighed, Weighed}
-use Rattle.balance.specs.Balance.{twoProducts}
-use Rattle.balance.specs.Balance.{Bounded, Ranged}
+use Rattle.balance.specs.Balance.{anEntry, Bounded, Ranged}
 use Rattle.judge.specs.Standing.{Sound, faultsOf, numberAt}
 
 pub grown : (k m : ℕ) (s : Standing) → k ≤ m → Sound k s → Sound m s
@@ -21,7 +20,7 @@ grown k m Unweighed h t = tt
 grown k m (Weighed b) h t = record { ranged = t .ranged; aft = omega arith; fore = omega arith }
 
 -- one entry more
-pub grown-by : (k : ℕ) (b r : Balance) → Bounded k b → Ranged r → r .aft ≤ b .aft + twoProducts → r .fore ≤ b .fore + twoProducts → Bounded (k + 1) r
+pub grown-by : (k : ℕ) (b r : Balance) → Bounded k b → Ranged r → r .aft ≤ b .aft + anEntry → r .fore ≤ b .fore + anEntry → Bounded (k + 1) r
 grown-by k b r t g a f = record { ranged = g; aft = omega arith; fore = omega arith }
 
 pub of-weighed : (k : ℕ) (s : Standing) (b : Balance) → s ≡ Weighed b → Sound k s → Bounded k b

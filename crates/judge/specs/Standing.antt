@@ -26,9 +26,10 @@ Sound k (Weighed b) = Bounded k b
 
 -- what is asked of an entry behind 9, where o is the balance
 abbrev pub faultsOf : Option paper.Balance → Entry → List (ℕ × Bool)
-faultsOf o (entry.Weighing w) = weighingFaults w
+faultsOf o (entry.Weighing w) = weighingFaults (paper.alike w)
 faultsOf o (entry.Sheet s) = sheetFaults s
 faultsOf o (entry.Change x) = changeFaults o x
+faultsOf o (entry.Paired x) = weighingFaults (paper.paired x)
 
 -- the number that an entry gets where n entries stand and o is their balance
 unfoldable pub numberAt : ℕ → Option paper.Balance → Entry → ℕ
@@ -36,9 +37,10 @@ numberAt n o e = firstNumber (9 when leb capacity n ∷ faultsOf o e)
 
 -- the balance once an entry is added
 abbrev pub after : Option paper.Balance → Entry → Option paper.Balance
-after o (entry.Weighing w) = some (paper.weighed w)
+after o (entry.Weighing w) = some (paper.weighed (paper.alike w))
 after o (entry.Sheet s) = o
 after o (entry.Change x) = Option·map (λ (b : paper.Balance). paper.changed b x) o
+after o (entry.Paired x) = some (paper.weighed (paper.paired x))
 
 -- a judgement: the number where it is not 0, else what stands then, of k entries
 abbrev pub Says : ℕ → Option paper.Balance → ℕ → Judged → Type 0

@@ -3,6 +3,7 @@ use balance::Balance;
 use paper::CAPACITY;
 use paper::Change;
 use paper::Entry;
+use paper::Paired;
 use paper::Sheet;
 use paper::Weighing;
 ghost use mathlib.Core.Path.{_≡_};
@@ -26,13 +27,24 @@ pub enum Judged {
 
 // A weighing, behind 9.
 fn judge_weighing(w: Weighing) -> Judged
-    ensures { λ r. ⌜ ((k : ℕ) → Says (firstNumber (weighingFaults w)) (some (paper.weighed w)) (k + 1) r) ⌝ }
+    ensures { λ r. ⌜ ((k : ℕ) → Says (firstNumber (weighingFaults (paper.alike w))) (some (paper.weighed (paper.alike w))) (k + 1) r) ⌝ }
 {
     let n = weighing::number(w);
     if n != 0 {
         return Judged::Refused(n);
     }
     Judged::Accepted(Standing::Weighed(weighing::weighed(w)))
+}
+
+// A paired weighing, behind 9.
+fn judge_paired(x: Paired) -> Judged
+    ensures { λ r. ⌜ ((k : ℕ) → Says (firstNumber (weighingFaults (paper.paired x))) (some (paper.weighed (paper.paired x))) (k + 1) r) ⌝ }
+{
+    let n = weighing::paired_number(x);
+    if n != 0 {
+        return Judged::Refused(n);
+    }
+    Judged::Accepted(Standing::Weighed(weighing::paired(x)))
 }
 
 // A data sheet, behind 9.
@@ -73,6 +85,7 @@ pub fn judge(count: usize, standing: Standing, e: Entry) -> Judged
         Entry::Weighing(w) => judge_weighing(w),
         Entry::Sheet(s) => judge_sheet(standing, s),
         Entry::Change(x) => judge_change(standing, x),
+        Entry::Paired(x) => judge_paired(x),
     }
 }
 
@@ -99,5 +112,6 @@ pub fn number(count: usize, standing: Standing, e: Entry) -> u64
         Entry::Weighing(w) => weighing::number(w),
         Entry::Sheet(s) => sheet::number(s),
         Entry::Change(x) => change_number(standing, x),
+        Entry::Paired(x) => weighing::paired_number(x),
     }
 }

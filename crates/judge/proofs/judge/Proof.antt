@@ -30,6 +30,12 @@ enum-known-e-3 c = search needs
 judge-change-requires : tie.Need-judge-change-requires
 judge-change-requires c κs = let s = c .before .before .before .before in grown (s .args .count) 1024 (s .args .standing) (omega arith) (s .pre)
 
+enum-known-e-4 : tie.Need-enum-known-e-4
+enum-known-e-4 c = search needs
+
+judge-paired-requires : tie.Need-judge-paired-requires
+judge-paired-requires c κs = search needs
+
 returns-2 : tie.Need-returns-2
 returns-2 c =
     let g = c .before .before .before .before .before .args in
@@ -47,6 +53,11 @@ returns-4 c =
     let g = s .args in
     rw (room-at (g .count) (plainly (g .standing)) (g .e) (c .before .before .before .before .if1 .left), c .before .before .e3 .given .1) (c .judge-change .ensures (g .count) (s .pre))
 
+returns-5 : tie.Need-returns-5
+returns-5 c =
+    let g = c .before .before .before .before .before .args in
+    rw (room-at (g .count) (plainly (g .standing)) (g .e) (c .before .before .before .before .if1 .left), c .before .before .e4 .given .1) (c .judge-paired .ensures (g .count))
+
 pub judge-spec : {M : Type 1} → statement M
 judge-spec =
     tie.close
@@ -58,6 +69,9 @@ judge-spec =
     judge-sheet-requires
     enum-known-e-3
     judge-change-requires
+    enum-known-e-4
+    judge-paired-requires
     returns-2
     returns-3
-    returns-4)
+    returns-4
+    returns-5)

@@ -27,6 +27,12 @@ enum-known-e-3 c = search needs
 change-number-requires : tie.Need-change-number-requires
 change-number-requires c κs = let s = c .before .before .before .before in grown (s .args .count) 1024 (s .args .standing) (omega arith) (s .pre)
 
+enum-known-e-4 : tie.Need-enum-known-e-4
+enum-known-e-4 c = search needs
+
+paired-number-requires : tie.Need-paired-number-requires
+paired-number-requires c κs = search needs
+
 returns-2 : tie.Need-returns-2
 returns-2 c =
     let g = c .before .before .before .before .before .args in
@@ -42,6 +48,11 @@ returns-4 c =
     let g = c .before .before .before .before .before .args in
     rw (room-at (g .count) (plainly (g .standing)) (g .e) (c .before .before .before .before .if1 .left), c .before .before .e3 .given .1) (c .change-number .ensures)
 
+returns-5 : tie.Need-returns-5
+returns-5 c =
+    let g = c .before .before .before .before .before .args in
+    rw (room-at (g .count) (plainly (g .standing)) (g .e) (c .before .before .before .before .if1 .left), c .before .before .e4 .given .1) (c .paired-number .ensures)
+
 pub number-spec : {M : Type 1} → statement M
 number-spec =
     tie.close
@@ -53,6 +64,9 @@ number-spec =
     number-requires-2
     enum-known-e-3
     change-number-requires
+    enum-known-e-4
+    paired-number-requires
     returns-2
     returns-3
-    returns-4)
+    returns-4
+    returns-5)
