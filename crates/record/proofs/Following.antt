@@ -15,7 +15,7 @@ use Rattle.paper.specs.declared.Entry.the-variants as entry
 use Rattle.paper.specs.Refusals.{entryNumber, acceptedAfter, accepted, onlyAccepted, fileOf}
 use Rattle.paper.specs.File.{laidOut}
 use Rattle.paper.proofs.Lists.{last-apart}
-use Rattle.paper.specs.Journal.{Call, weigh, install, change, undo, read, callNumber, acceptedCall, afterBy, afterCall, withoutLast, entriesOr}
+use Rattle.paper.specs.Journal.{Call, weigh, pair, install, change, undo, read, callNumber, acceptedCall, afterBy, afterCall, withoutLast, entriesOr}
 use Rattle.record.specs.declared.Record.{Record}
 use Rattle.record.specs.declared.Kept.{Kept}
 use Rattle.record.specs.Held.{recordOf, heldBy, keptOr, answered}
@@ -48,6 +48,7 @@ only-accepted (some es) fs h = chosen (accepted es) es fs refl h
 pub call-accepted : (es : List Entry) (x : Call) → accepted es ≡ true → callNumber es x ≡ 0 → accepted (acceptedCall es x) ≡ true
 unfolding callNumber acceptedCall entryNumber fileOf
 call-accepted es (weigh w) h n = accepted-more es (entry.Weighing w) h n
+call-accepted es (pair x) h n = accepted-more es (entry.Paired x) h n
 call-accepted es (install s) h n = accepted-more es (entry.Sheet s) h n
 call-accepted es (change x) h n = accepted-more es (entry.Change x) h n
 call-accepted es undo h n = without-accepted es h

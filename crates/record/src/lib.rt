@@ -6,6 +6,7 @@ use paper::CAPACITY;
 use paper::CentreOfGravity;
 use paper::Change;
 use paper::Entry;
+use paper::Paired;
 use paper::Sheet;
 use paper::Weighing;
 ghost use mathlib.Core.Path.{_≡_};
@@ -112,6 +113,13 @@ impl Record {
         ensures { λ r. ⌜ r ≡ answered self (journal.weigh w) ⌝ }
     {
         add(self, Entry::Weighing(w))
+    }
+
+    // A paired weighing.
+    pub fn weigh_paired(self, x: Paired) -> Kept
+        ensures { λ r. ⌜ r ≡ answered self (journal.pair x) ⌝ }
+    {
+        add(self, Entry::Paired(x))
     }
 
     // A data sheet.
