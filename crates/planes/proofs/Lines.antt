@@ -1,6 +1,6 @@
 -- Each of the paper's lines of limits is an order of two naturals that grow evenly with front load and water: the integers
--- of a line are taken apart into their two sides. So the lines of every sheet and every balance are half-planes.
--- Assumes nothing.
+-- of a line are taken apart into their two sides. So the lines of every sheet and every balance are half-planes. Loads are
+-- whole grams and a balance is in half grams, so that each gram of load counts twice. Assumes nothing.
 use mathlib.Core.Path.{_≡_, sym, _∙_}
 use mathlib.Core.Bool.{Bool, true, false, cond, _&&_, _||_}
 use mathlib.Core.List.{List, [], _∷_}
@@ -11,10 +11,11 @@ use lib.IntN.{ℤ, pos, _+ℤ_, _*ℤ_}
 use lib.Signed.{leZ}
 use borrow.Author.Tests.{le-leb}
 use Rattle.laws.specs.declared.Sides.{Sides}
-use Rattle.laws.specs.Z.{Is, up, dn, is-nat, is-int, is-add, is-mul, leZ-test}
+use Rattle.laws.specs.Z.{Is, up, dn, is-nat, is-int, is-add, is-mul, same, leZ-test}
 use Rattle.paper.specs.declared.Sheet.{Sheet}
-use Rattle.paper.specs.Record.{Balance}
-use Rattle.paper.specs.Rows.{weightWith, momentWith, lines, all, keepsAt}
+use Rattle.paper.specs.Units.{halfGrams}
+use Rattle.paper.specs.Record.{Balance, with}
+use Rattle.paper.specs.Rows.{laden, atMost, lines, all, keepsAt}
 use Rattle.planes.specs.declared.HalfPlane.{HalfPlane}
 use Rattle.planes.specs.Plane.{holds, allHold}
 
@@ -39,119 +40,6 @@ pub record PartsOf (s : Sheet) (b : Balance) (q : Parts) : Type 0 where
   pub front : Is (s .front .arm) (q .front .up) (q .front .down)
   pub rear : Is (s .rear .arm) (q .rear .up) (q .rear .down)
   pub water : Is (s .water .arm) (q .water .up) (q .water .down)
-
-module _ (q : Parts) (r p v : ℕ) where
-  -- what counts up of the whole weight
-  abbrev pub grams : ℕ
-  grams = q .total .up + r + p + v
-
-  -- what turns aft, and what turns forward
-  abbrev pub aftward : ℕ
-  aftward = q .moment .up + r * q .rear .up + p * q .front .up + v * q .water .up
-
-  abbrev pub forward : ℕ
-  forward = q .moment .down + r * q .rear .down + p * q .front .down + v * q .water .down
-
--- 20 times the safe aft limit, which is 5 % of the range inside AFT
-abbrev pub safeUp : Parts → ℕ
-safeUp q = 19 * q .aft .up + q .fwd .up
-
-abbrev pub safeDown : Parts → ℕ
-safeDown q = 19 * q .aft .down + q .fwd .down
-
--- the two ends of FWD's line, and of the safe aft limit's
-module _ (q : Parts) (r p v : ℕ) where
-  abbrev pub fwdLow : ℕ
-  fwdLow = forward q r p v + q .fwd .up * grams q r p v + q .fwd .down * q .total .down
-
-  abbrev pub fwdHigh : ℕ
-  fwdHigh = aftward q r p v + q .fwd .down * grams q r p v + q .fwd .up * q .total .down
-
-  abbrev pub aftLow : ℕ
-  aftLow = 20 * aftward q r p v + safeDown q * grams q r p v + safeUp q * q .total .down
-
-  abbrev pub aftHigh : ℕ
-  aftHigh = 20 * forward q r p v + safeUp q * grams q r p v + safeDown q * q .total .down
-
--- ---- the five lines
-
-module _ (s : Sheet) (b : Balance) (q : Parts) (o : PartsOf s b q) (r p v : ℕ) where
-  weight-is : Is (weightWith b r p v) (grams q r p v) (q .total .down)
-  unfolding weightWith
-  weight-is =
-      let t = is-add (is-add (is-add (o .total) (is-nat p)) (is-nat r)) (is-nat v) in record { is = omega (arith, t .is) }
-
-  moment-is : Is (momentWith s b r p v) (aftward q r p v) (forward q r p v)
-  unfolding momentWith
-  moment-is =
-      let t =
-      is-add (is-add (is-add (o .moment) (is-mul (is-nat p) (o .front))) (is-mul (is-nat r) (o .rear))) (is-mul (is-nat v) (o .water)) in
-      record { is = omega (arith, t .is) }
-
-  pub weight-line : (most : ℕ) → leZ (weightWith b r p v) (pos most) ≡ leb (grams q r p v) (most + q .total .down)
-  weight-line most = leZ-test weight-is (is-nat most) (grams q r p v) (most + q .total .down) (omega arith)
-
-  pub part-line : (most : ℕ) → leZ (b .nonLifting +ℤ pos p +ℤ pos r) (pos most) ≡ leb (q .nonLifting .up + r + p) (most + q .nonLifting .down)
-  part-line most =
-      leZ-test (is-add (is-add (o .nonLifting) (is-nat p)) (is-nat r)) (is-nat most) (q .nonLifting .up + r + p) (most + q .nonLifting .down) (omega arith)
-
-  pub fwd-line : leZ (s .fwd *ℤ weightWith b r p v) (momentWith s b r p v) ≡ leb (fwdLow q r p v) (fwdHigh q r p v)
-  fwd-line = leZ-test (is-mul (o .fwd) weight-is) moment-is (fwdLow q r p v) (fwdHigh q r p v) (omega arith)
-
-  pub aft-line : leZ (pos 20 *ℤ momentWith s b r p v) ((pos 19 *ℤ s .aft +ℤ s .fwd) *ℤ weightWith b r p v) ≡ leb (aftLow q r p v) (aftHigh q r p v)
-  aft-line =
-      leZ-test (is-mul (is-nat 20) moment-is) (is-mul (is-add (is-mul (is-nat 19) (o .aft)) (o .fwd)) weight-is) (aftLow q r p v) (aftHigh q r p v) (omega arith)
-
--- five tests that are the five lines' are what it is to keep the limits
-pub keeps-tests : (s : Sheet) (b : Balance) (q : Parts) → PartsOf s b q → (r p v : ℕ) (dry wet nlp fwd aft : Bool)
-    → leb (grams q r p 0) (s .dry + q .total .down) ≡ dry
-    → leb (grams q r p v) (s .wet + q .total .down) ≡ wet
-    → (eqb (s .nlp) 0 || leb (q .nonLifting .up + r + p) (s .nlp + q .nonLifting .down)) ≡ nlp
-    → leb (fwdLow q r p v) (fwdHigh q r p v) ≡ fwd
-    → leb (aftLow q r p v) (aftHigh q r p v) ≡ aft
-    → keepsAt s b r p v ≡ (dry && (wet && (nlp && (fwd && (aft && true)))))
-unfolding keepsAt lines all
-keeps-tests s b q o r p v dry wet nlp fwd aft d w n f a =
-    rw (
-      weight-line s b q o r p 0 (s .dry) ∙ d,
-      weight-line s b q o r p v (s .wet) ∙ w,
-      part-line s b q o r p v (s .nlp),
-      n,
-      fwd-line s b q o r p v ∙ f,
-      aft-line s b q o r p v ∙ a,
-    )
-
--- ---- every line as a half-plane
-
--- no limit
-abbrev pub noLimit : HalfPlane
-noLimit = record { alpha0 = 0; alpha1 = 0; beta = 0; gamma0 = 0; gamma1 = 0; delta = 0 }
-
--- a weight with the front load, and so much of the water, is at most another
-abbrev pub weightPlane : ℕ → ℕ → ℕ → HalfPlane
-weightPlane wet weight most = record { alpha0 = most; alpha1 = 0; beta = 0; gamma0 = weight; gamma1 = wet; delta = 1 }
-
-abbrev pub fwdPlane : Parts → ℕ → HalfPlane
-fwdPlane q r =
-    record {
-      alpha0 = fwdHigh q r 0 0;
-      alpha1 = q .water .up + q .fwd .down;
-      beta = q .front .up + q .fwd .down;
-      gamma0 = fwdLow q r 0 0;
-      gamma1 = q .water .down + q .fwd .up;
-      delta = q .front .down + q .fwd .up;
-    }
-
-abbrev pub aftPlane : Parts → ℕ → HalfPlane
-aftPlane q r =
-    record {
-      alpha0 = aftHigh q r 0 0;
-      alpha1 = 20 * q .water .down + safeUp q;
-      beta = 20 * q .front .down + safeUp q;
-      gamma0 = aftLow q r 0 0;
-      gamma1 = 20 * q .water .up + safeDown q;
-      delta = 20 * q .front .up + safeDown q;
-    }
 
 -- the sides of the integers of a sheet and a balance
 abbrev pub sides : ℤ → Sides
@@ -183,15 +71,186 @@ parts-of s b =
       water = is-int (s .water .arm);
     }
 
+module _ (q : Parts) (r p v : ℕ) where
+  -- what counts up of the whole weight, in half grams
+  abbrev pub halves : ℕ
+  halves = q .total .up + 2 * (p + r + v)
+
+  -- what turns aft, and what turns forward
+  abbrev pub aftward : ℕ
+  aftward = q .moment .up + 2 * (p * q .front .up + r * q .rear .up + v * q .water .up)
+
+  abbrev pub forward : ℕ
+  forward = q .moment .down + 2 * (p * q .front .down + r * q .rear .down + v * q .water .down)
+
+-- 20 times the safe aft limit, which is 5 % of the range inside AFT
+abbrev pub safeUp : Parts → ℕ
+safeUp q = 19 * q .aft .up + q .fwd .up
+
+abbrev pub safeDown : Parts → ℕ
+safeDown q = 19 * q .aft .down + q .fwd .down
+
+-- the two ends of FWD's line, and of the safe aft limit's
+module _ (q : Parts) (r p v : ℕ) where
+  abbrev pub fwdLow : ℕ
+  fwdLow = forward q r p v + q .fwd .up * halves q r p v + q .fwd .down * q .total .down
+
+  abbrev pub fwdHigh : ℕ
+  fwdHigh = aftward q r p v + q .fwd .down * halves q r p v + q .fwd .up * q .total .down
+
+  abbrev pub aftLow : ℕ
+  aftLow = 20 * aftward q r p v + safeDown q * halves q r p v + safeUp q * q .total .down
+
+  abbrev pub aftHigh : ℕ
+  aftHigh = 20 * forward q r p v + safeUp q * halves q r p v + safeDown q * q .total .down
+
+-- ---- what is aboard
+
+half-is : (n : ℕ) → Is (halfGrams (pos n)) (2 * n) 0
+unfolding halfGrams
+half-is n = let t = is-mul (is-nat 2) (is-nat n) in record { is = omega (arith, t .is) }
+
+-- a load at an arm
+turned-is : (n : ℕ) {arm : ℤ} {u d : ℕ} → Is arm u d → Is (halfGrams (pos n) *ℤ arm) (2 * (n * u)) (2 * (n * d))
+turned-is n h = let t = is-mul (half-is n) h in record { is = omega (arith, t .is) }
+
+module _ (s : Sheet) (b : Balance) (q : Parts) (o : PartsOf s b q) (r p v : ℕ) where
+  total-is : Is (laden s b r p v .total) (halves q r p v) (q .total .down)
+  unfolding laden with
+  total-is =
+      let t = is-add (is-add (is-add (o .total) (half-is p)) (half-is r)) (half-is v) in record { is = omega (arith, t .is) }
+
+  moment-is : Is (laden s b r p v .moment) (aftward q r p v) (forward q r p v)
+  unfolding laden with
+  moment-is =
+      let t =
+      is-add (is-add (is-add (o .moment) (turned-is p (o .front))) (turned-is r (o .rear))) (turned-is v (o .water)) in
+      record { is = omega (arith, t .is) }
+
+  part-is : Is (laden s b r p v .nonLifting) (q .nonLifting .up + 2 * (p + r)) (q .nonLifting .down)
+  unfolding laden with
+  part-is =
+      let t = is-add (is-add (is-add (o .nonLifting) (half-is p)) (half-is r)) (is-nat 0) in
+      record { is = omega (arith, t .is) }
+
+-- ---- T, S and the non-lifting weight with all loads aboard, as the paper has them, in half grams
+
+module _ (s : Sheet) (b : Balance) (r p v : ℕ) where
+  -- T = G + 2·(P + r + v)
+  pub laden-total : laden s b r p v .total ≡ b .total +ℤ pos 2 *ℤ (pos p +ℤ pos r +ℤ pos v)
+  laden-total =
+      same (total-is s b (partsOf s b) (parts-of s b) r p v)
+      (is-add (is-int (b .total)) (is-mul (is-nat 2) (is-add (is-add (is-nat p) (is-nat r)) (is-nat v)))) (omega arith)
+
+  -- S = M + 2·(P·front arm + r·rear arm + v·water arm)
+  pub laden-moment : laden s b r p v .moment ≡ b .moment +ℤ pos 2 *ℤ (pos p *ℤ s .front .arm +ℤ pos r *ℤ s .rear .arm +ℤ pos v *ℤ s .water .arm)
+  laden-moment =
+      let front = is-mul (is-nat p) (is-int (s .front .arm)) in
+      let rear = is-mul (is-nat r) (is-int (s .rear .arm)) in
+      let water = is-mul (is-nat v) (is-int (s .water .arm)) in
+      same (moment-is s b (partsOf s b) (parts-of s b) r p v)
+      (is-add (is-int (b .moment)) (is-mul (is-nat 2) (is-add (is-add front rear) water))) (omega arith)
+
+  -- n + 2·(P + r): water never counts
+  pub laden-part : laden s b r p v .nonLifting ≡ b .nonLifting +ℤ pos 2 *ℤ (pos p +ℤ pos r)
+  laden-part =
+      same (part-is s b (partsOf s b) (parts-of s b) r p v)
+      (is-add (is-int (b .nonLifting)) (is-mul (is-nat 2) (is-add (is-nat p) (is-nat r)))) (omega arith)
+
+-- ---- the five lines
+
+at-most : {z : ℤ} {u d : ℕ} → Is z u d → (most : ℕ) → atMost most z ≡ leb u (2 * most + d)
+unfolding atMost
+at-most {u = u} {d} h most = leZ-test h (half-is most) u (2 * most + d) (omega arith)
+
+module _ (s : Sheet) (b : Balance) (q : Parts) (o : PartsOf s b q) (r p v : ℕ) where
+  pub weight-line : (most : ℕ) → atMost most (laden s b r p v .total) ≡ leb (halves q r p v) (2 * most + q .total .down)
+  weight-line most = at-most (total-is s b q o r p v) most
+
+  pub part-line : (most : ℕ) → atMost most (laden s b r p v .nonLifting) ≡ leb (q .nonLifting .up + 2 * (p + r)) (2 * most + q .nonLifting .down)
+  part-line most = at-most (part-is s b q o r p v) most
+
+  pub fwd-line : leZ (s .fwd *ℤ laden s b r p v .total) (laden s b r p v .moment) ≡ leb (fwdLow q r p v) (fwdHigh q r p v)
+  fwd-line = leZ-test (is-mul (o .fwd) (total-is s b q o r p v)) (moment-is s b q o r p v) (fwdLow q r p v) (fwdHigh q r p v) (omega arith)
+
+  pub aft-line : leZ (pos 20 *ℤ laden s b r p v .moment) ((pos 19 *ℤ s .aft +ℤ s .fwd) *ℤ laden s b r p v .total) ≡ leb (aftLow q r p v) (aftHigh q r p v)
+  aft-line =
+      leZ-test (is-mul (is-nat 20) (moment-is s b q o r p v)) (is-mul (is-add (is-mul (is-nat 19) (o .aft)) (o .fwd)) (total-is s b q o r p v)) (aftLow q r p v) (aftHigh q r p v) (omega arith)
+
+-- five tests that are the five lines' are what it is to keep the limits
+pub keeps-tests : (s : Sheet) (b : Balance) (q : Parts) → PartsOf s b q → (r p v : ℕ) (dry wet nlp fwd aft : Bool)
+    → leb (halves q r p 0) (2 * s .dry + q .total .down) ≡ dry
+    → leb (halves q r p v) (2 * s .wet + q .total .down) ≡ wet
+    → (eqb (s .nlp) 0 || leb (q .nonLifting .up + 2 * (p + r)) (2 * s .nlp + q .nonLifting .down)) ≡ nlp
+    → leb (fwdLow q r p v) (fwdHigh q r p v) ≡ fwd
+    → leb (aftLow q r p v) (aftHigh q r p v) ≡ aft
+    → keepsAt s b r p v ≡ (dry && (wet && (nlp && (fwd && (aft && true)))))
+unfolding keepsAt lines all
+keeps-tests s b q o r p v dry wet nlp fwd aft d w n f a =
+    rw (
+      weight-line s b q o r p 0 (s .dry) ∙ d,
+      weight-line s b q o r p v (s .wet) ∙ w,
+      part-line s b q o r p v (s .nlp),
+      n,
+      fwd-line s b q o r p v ∙ f,
+      aft-line s b q o r p v ∙ a,
+    )
+
+-- ---- every line as a half-plane: first of loads in half grams, as the balance is
+
+-- no limit
+abbrev pub noLimit : HalfPlane
+noLimit = record { alpha0 = 0; alpha1 = 0; beta = 0; gamma0 = 0; gamma1 = 0; delta = 0 }
+
+-- a weight with the front load, and with the water as often as `wet` says, is at most another
+abbrev pub weightPlane : ℕ → ℕ → ℕ → HalfPlane
+weightPlane wet weight most = record { alpha0 = most; alpha1 = 0; beta = 0; gamma0 = weight; gamma1 = wet; delta = 1 }
+
+abbrev pub fwdPlane : Parts → ℕ → HalfPlane
+fwdPlane q r =
+    record {
+      alpha0 = fwdHigh q r 0 0;
+      alpha1 = q .water .up + q .fwd .down;
+      beta = q .front .up + q .fwd .down;
+      gamma0 = fwdLow q r 0 0;
+      gamma1 = q .water .down + q .fwd .up;
+      delta = q .front .down + q .fwd .up;
+    }
+
+abbrev pub aftPlane : Parts → ℕ → HalfPlane
+aftPlane q r =
+    record {
+      alpha0 = aftHigh q r 0 0;
+      alpha1 = 20 * q .water .down + safeUp q;
+      beta = 20 * q .front .down + safeUp q;
+      gamma0 = aftLow q r 0 0;
+      gamma1 = 20 * q .water .up + safeDown q;
+      delta = 20 * q .front .up + safeDown q;
+    }
+
+-- ---- the half-planes of loads in grams
+
+-- each gram counts as two halves
+abbrev pub inGrams : HalfPlane → HalfPlane
+inGrams l =
+    record {
+      alpha0 = l .alpha0;
+      alpha1 = 2 * l .alpha1;
+      beta = 2 * l .beta;
+      gamma0 = l .gamma0;
+      gamma1 = 2 * l .gamma1;
+      delta = 2 * l .delta;
+    }
+
 -- the lines of limits with rear load r
 unfoldable pub planesOf : Sheet → Balance → ℕ → List HalfPlane
 planesOf s b r =
     let q = partsOf s b in
-    weightPlane 0 (q .total .up + r) (s .dry + q .total .down) ∷
-    weightPlane 1 (q .total .up + r) (s .wet + q .total .down) ∷
-    cond (eqb (s .nlp) 0) noLimit (weightPlane 0 (q .nonLifting .up + r) (s .nlp + q .nonLifting .down)) ∷
-    fwdPlane q r ∷
-    aftPlane q r ∷ []
+    inGrams (weightPlane 0 (q .total .up + 2 * r) (2 * s .dry + q .total .down)) ∷
+    inGrams (weightPlane 1 (q .total .up + 2 * r) (2 * s .wet + q .total .down)) ∷
+    cond (eqb (s .nlp) 0) noLimit (inGrams (weightPlane 0 (q .nonLifting .up + 2 * r) (2 * s .nlp + q .nonLifting .down))) ∷
+    inGrams (fwdPlane q r) ∷
+    inGrams (aftPlane q r) ∷ []
 
 -- an order of what a half-plane's two ends are
 pub holds-test : (l : HalfPlane) (p v m n : ℕ) → m ≡ l .gamma0 + v * l .gamma1 + l .delta * p → n ≡ l .alpha0 + v * l .alpha1 + l .beta * p → leb m n ≡ holds l p v
@@ -210,12 +269,12 @@ keeps-planes s b r p v =
     let q = partsOf s b in
     let t = q .total in
     let n = q .nonLifting in
-    let dry = weightPlane 0 (t .up + r) (s .dry + t .down) in
-    let wet = weightPlane 1 (t .up + r) (s .wet + t .down) in
-    let nlp = weightPlane 0 (n .up + r) (s .nlp + n .down) in
+    let dry = inGrams (weightPlane 0 (t .up + 2 * r) (2 * s .dry + t .down)) in
+    let wet = inGrams (weightPlane 1 (t .up + 2 * r) (2 * s .wet + t .down)) in
+    let nlp = inGrams (weightPlane 0 (n .up + 2 * r) (2 * s .nlp + n .down)) in
     keeps-tests s b q (parts-of s b) r p v _ _ _ _ _
-    (holds-test dry p v (grams q r p 0) (s .dry + t .down) (omega arith) (omega arith))
-    (holds-test wet p v (grams q r p v) (s .wet + t .down) (omega arith) (omega arith))
-    (unless (eqb (s .nlp) 0) _ nlp p v (holds-test nlp p v (n .up + r + p) (s .nlp + n .down) (omega arith) (omega arith)))
-    (holds-test (fwdPlane q r) p v (fwdLow q r p v) (fwdHigh q r p v) (omega arith) (omega arith))
-    (holds-test (aftPlane q r) p v (aftLow q r p v) (aftHigh q r p v) (omega arith) (omega arith))
+    (holds-test dry p v (halves q r p 0) (2 * s .dry + t .down) (omega arith) (omega arith))
+    (holds-test wet p v (halves q r p v) (2 * s .wet + t .down) (omega arith) (omega arith))
+    (unless (eqb (s .nlp) 0) _ nlp p v (holds-test nlp p v (n .up + 2 * (p + r)) (2 * s .nlp + n .down) (omega arith) (omega arith)))
+    (holds-test (inGrams (fwdPlane q r)) p v (fwdLow q r p v) (fwdHigh q r p v) (omega arith) (omega arith))
+    (holds-test (inGrams (aftPlane q r)) p v (aftLow q r p v) (aftHigh q r p v) (omega arith) (omega arith))
