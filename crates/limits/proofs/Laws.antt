@@ -1,10 +1,11 @@
 -- The half-planes of the code keep the paper's lines: each line by the sides of its arms. Assumes nothing.
-use mathlib.Core.Path.{_≡_}
+use mathlib.Core.Path.{_≡_, refl, sym, ap, _∙_}
 use mathlib.Core.Bool.{Bool, true, _&&_, _||_}
-use Prim.Native.Nat.{ℕ, _+_, _*_}
+use Prim.Native.Nat.{ℕ, zero, suc, _+_, _*_}
 use native.Mathlib.Nat.{add-zero}
 use native.Mathlib.Omega.{arith}
 use lib.Dec.{leb, eqb}
+use borrow.Author.Tests.{ne-eqb}
 use Rattle.laws.specs.Tests.{leb-by}
 use Rattle.laws.specs.Z.{is-nat, is-sub, is-sides}
 use Rattle.paper.specs.declared.Sheet.{Sheet}
@@ -13,10 +14,17 @@ use Rattle.balance.specs.declared.Balance.{Balance}
 use Rattle.balance.specs.Balance.{plain}
 use Rattle.planes.specs.declared.HalfPlane.{HalfPlane}
 use Rattle.planes.specs.Plane.{holds}
-use Rattle.planes.proofs.Lines.{Parts, PartsOf, grams, fwdLow, fwdHigh, aftLow, aftHigh, keeps-tests, holds-test}
+use Rattle.planes.proofs.Lines.{Parts, PartsOf, halves, fwdLow, fwdHigh, aftLow, aftHigh, keeps-tests, inGrams, holds-test}
 use Rattle.limits.specs.declared.Arms.{Arms}
+use Rattle.limits.specs.declared.Weights.{Weights}
 use Rattle.limits.specs.declared.Side.{Side}
-use Rattle.limits.specs.Turned.{ArmsOf, sideAt, Within}
+use Rattle.limits.specs.Turned.{ArmsOf, WeightsOf, sideAt, Within}
+
+-- what `in_grams` gives
+pub in-grams : (l : HalfPlane) (p v : ℕ) → holds l (2 * p) (2 * v) ≡ holds (inGrams l) p v
+unfolding holds
+in-grams l p v =
+    holds-test (inGrams l) p v (l .gamma0 + 2 * v * l .gamma1 + l .delta * (2 * p)) (l .alpha0 + 2 * v * l .alpha1 + l .beta * (2 * p)) (omega arith) (omega arith)
 
 -- what `moment_limit` gives, where x and y are the two products
 abbrev pub momentPlane : Side → Side → ℕ → ℕ → ℕ → ℕ → HalfPlane
@@ -49,8 +57,13 @@ wider s w = record { base = omega (arith, w .base); front = omega (arith, w .fro
 
 -- ---- the five lines of a sheet and a balance
 
-unless : {t : Bool} (none : Bool) (n m : ℕ) → (none || leb m n) ≡ t → (none || leb m (n + 0)) ≡ t
-unless none n m h = rw (add-zero n) h
+-- no half grams are no grams
+no-halves : (n : ℕ) → eqb (2 * n) 0 ≡ eqb n 0
+no-halves zero = refl
+no-halves (suc n) = ne-eqb (2 * suc n) 0 (omega arith) ∙ sym (ne-eqb (suc n) 0 (omega arith))
+
+unless : {t : Bool} (n k m m′ : ℕ) → k ≡ 2 * n → m′ ≡ m → (eqb k 0 || leb m k) ≡ t → (eqb n 0 || leb m′ (2 * n + 0)) ≡ t
+unless n k m m′ e f h = rw (f, add-zero (2 * n), ← e, ← no-halves n, ← e) h
 
 module _ (s : Sheet) (b : Balance) (a : Arms) (o : ArmsOf s a) where
   abbrev parts : Parts
@@ -80,25 +93,28 @@ module _ (s : Sheet) (b : Balance) (a : Arms) (o : ArmsOf s a) where
         water = is-sides (o .water);
       }
 
-  module _ (rear p v : ℕ) where
+  module _ (rear p v : ℕ) (g : Weights) (k : WeightsOf s rear g) where
     abbrev weight : ℕ
-    weight = b .total + rear
+    weight = b .total + g .rear
+
+    times : (n : ℕ) → n * g .rear ≡ n * (2 * rear)
+    times n = ap (λ (m : ℕ). n * m) (k .rear)
 
     -- x is what turns aft, and y what turns forward
-    pub keeps-limits : (x y : ℕ) → x ≡ b .aft + rear * a .seat .up + p * a .front .up + v * a .water .up
-        → y ≡ b .fore + rear * a .seat .down + p * a .front .down + v * a .water .down
+    pub keeps-limits : (x y : ℕ) → x ≡ b .aft + g .rear * a .seat .up + 2 * p * a .front .up + 2 * v * a .water .up
+        → y ≡ b .fore + g .rear * a .seat .down + 2 * p * a .front .down + 2 * v * a .water .down
         → (first second third fourth fifth : Bool)
-        → leb (weight + p + v * 0) (s .dry) ≡ first
-        → leb (weight + p + v * 1) (s .wet) ≡ second
-        → (eqb (s .nlp) 0 || leb (b .nonlifting + rear + p) (s .nlp)) ≡ third
-        → leb (y + a .fwd .up * (weight + p + v)) (x + a .fwd .down * (weight + p + v)) ≡ fourth
-        → leb (20 * x + (19 * a .aft .down + a .fwd .down) * (weight + p + v)) (20 * y + (19 * a .aft .up + a .fwd .up) * (weight + p + v)) ≡ fifth
+        → leb (weight + 2 * p + 2 * v * 0) (g .dry) ≡ first
+        → leb (weight + 2 * p + 2 * v * 1) (g .wet) ≡ second
+        → (eqb (g .nlp) 0 || leb (b .nonlifting + g .rear + 2 * p) (g .nlp)) ≡ third
+        → leb (y + a .fwd .up * (weight + 2 * p + 2 * v)) (x + a .fwd .down * (weight + 2 * p + 2 * v)) ≡ fourth
+        → leb (20 * x + (19 * a .aft .down + a .fwd .down) * (weight + 2 * p + 2 * v)) (20 * y + (19 * a .aft .up + a .fwd .up) * (weight + 2 * p + 2 * v)) ≡ fifth
         → keepsAt s (plain b) rear p v ≡ (first && (second && (third && (fourth && (fifth && true)))))
     keeps-limits x y ex ey t₁ t₂ t₃ t₄ t₅ e₁ e₂ e₃ e₄ e₅ =
-        let m = weight + p + v in
+        let m = weight + 2 * p + 2 * v in
         keeps-tests s (plain b) parts parts-of rear p v t₁ t₂ t₃ t₄ t₅
-        (leb-by (grams parts rear p 0) (s .dry + 0) (weight + p + v * 0) (s .dry) (omega arith) (omega arith) e₁)
-        (leb-by (grams parts rear p v) (s .wet + 0) (weight + p + v * 1) (s .wet) (omega arith) (omega arith) e₂)
-        (unless (eqb (s .nlp) 0) (s .nlp) (b .nonlifting + rear + p) e₃)
-        (leb-by (fwdLow parts rear p v) (fwdHigh parts rear p v) (y + a .fwd .up * m) (x + a .fwd .down * m) (omega arith) (omega arith) e₄)
-        (leb-by (aftLow parts rear p v) (aftHigh parts rear p v) (20 * x + (19 * a .aft .down + a .fwd .down) * m) (20 * y + (19 * a .aft .up + a .fwd .up) * m) (omega arith) (omega arith) e₅)
+        (leb-by (halves parts rear p 0) (2 * s .dry + 0) (weight + 2 * p + 2 * v * 0) (g .dry) (omega (arith, k .rear)) (omega (arith, k .dry)) e₁)
+        (leb-by (halves parts rear p v) (2 * s .wet + 0) (weight + 2 * p + 2 * v * 1) (g .wet) (omega (arith, k .rear)) (omega (arith, k .wet)) e₂)
+        (unless (s .nlp) (g .nlp) (b .nonlifting + g .rear + 2 * p) (b .nonlifting + 2 * (p + rear)) (k .nlp) (omega (arith, k .rear)) e₃)
+        (leb-by (fwdLow parts rear p v) (fwdHigh parts rear p v) (y + a .fwd .up * m) (x + a .fwd .down * m) (omega (arith, times (a .seat .down), times (a .fwd .up))) (omega (arith, times (a .seat .up), times (a .fwd .down))) e₄)
+        (leb-by (aftLow parts rear p v) (aftHigh parts rear p v) (20 * x + (19 * a .aft .down + a .fwd .down) * m) (20 * y + (19 * a .aft .up + a .fwd .up) * m) (omega (arith, times (a .seat .up), times (a .aft .down), times (a .fwd .down))) (omega (arith, times (a .seat .down), times (a .aft .up), times (a .fwd .up))) e₅)

@@ -1,5 +1,6 @@
 -- `limits::aft_limit` meets its contract: what the calls say of twenty times the two sides, put together. Assumes nothing.
 use mathlib.Core.Path.{sym}
+use Prim.Native.Nat.{_*_}
 use borrow.Author.Needs.{needs}
 use Rattle.limits.proofs.aft_limit.Statement.{statement}
 use Rattle.limits.proofs.aft_limit.Tie as tie
@@ -30,7 +31,7 @@ returns c =
     let aftward = c .before .before .before .before .before .twenty2 in
     let forward = c .before .before .before .before .before .before .twenty in
     let m = c .moment-limit .ensures in
-    (λ p v. rw (sym (aftward .ensures .0 p v), sym (forward .ensures .0 p v)) (m .0 p v), m .1)
+    (λ p v. rw (sym (aftward .ensures .0 (2 * p) (2 * v)), sym (forward .ensures .0 (2 * p) (2 * v))) (m .0 p v), m .1)
 
 pub aft-limit-spec : {M : Type 1} → statement M
 aft-limit-spec =

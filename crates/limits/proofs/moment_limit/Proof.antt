@@ -1,5 +1,7 @@
 -- `limits::moment_limit` meets its contract: the half-plane's two ends multiplied out are the two sides with their weights.
 -- Assumes nothing.
+use mathlib.Core.Path.{_∙_}
+use Prim.Native.Nat.{_*_}
 use native.Mathlib.Omega.{arith}
 use borrow.Author.Needs.{needs}
 use Rattle.limits.proofs.Laws.{moment-holds}
@@ -30,21 +32,32 @@ add-t12 c = search needs
 add-t13 : tie.Need-add-t13
 add-t13 c = search needs
 
-returns : tie.Need-returns
-returns c =
+in-grams-requires : tie.Need-in-grams-requires
+in-grams-requires c κs =
     let s = c .before .before .before .before .before .before .before .before in
-    let g = s .args in
     let x = c .before .before .before .before .before .before .before .turned in
     let y = c .before .before .before .turned2 in
     let high = s .pre .0 in
-    let low = s .pre .1 in (
-      λ p v. moment-holds (g .high) (g .low) (g .weight) (g .up) (g .down) (x .result) (y .result) (x .ensures .0) (y .ensures .0) p v,
-      record {
-        alpha0 = omega (arith, high .base, x .ensures .1);
-        alpha1 = omega (arith, high .water, s .pre .3);
-        gamma0 = omega (arith, low .base, y .ensures .1);
-        gamma1 = omega (arith, low .water, s .pre .4);
-      },
+    let low = s .pre .1 in
+    record {
+      alpha0 = omega (arith, high .base, x .ensures .1);
+      alpha1 = omega (arith, high .water, s .pre .3);
+      beta = omega (arith, high .front, s .pre .3);
+      gamma0 = omega (arith, low .base, y .ensures .1);
+      gamma1 = omega (arith, low .water, s .pre .4);
+      delta = omega (arith, low .front, s .pre .4);
+    }
+
+returns : tie.Need-returns
+returns c =
+    let g = c .before .before .before .before .before .before .before .before .before .args in
+    let x = c .before .before .before .before .before .before .before .before .turned in
+    let y = c .before .before .before .before .turned2 in
+    let l = c .in-grams .ensures in (
+      λ p v.
+          moment-holds (g .high) (g .low) (g .weight) (g .up) (g .down) (x .result) (y .result) (x .ensures .0) (y .ensures .0) (2 * p) (2 * v)
+          ∙ l .0 p v,
+      l .1,
     )
 
 pub moment-limit-spec : {M : Type 1} → statement M
@@ -59,4 +72,5 @@ moment-limit-spec =
     add-t11
     add-t12
     add-t13
+    in-grams-requires
     returns)

@@ -26,7 +26,7 @@ returns-2 : tie.Need-returns-2
 returns-2 c =
     let some : eqb (c .before .before .args .most) 0 ≡ false = ne-eqb _ 0 (c .before .if1 .left) in
     let g = c .before .before .args in (
-      λ p v. rw some (leb-by (g .weight + p) (g .most) (g .weight + p + v * 0) (g .most) (omega arith) refl (c .weight-limit .ensures .0 p v)),
+      λ p v. rw some (leb-by (g .weight + 2 * p) (g .most) (g .weight + 2 * p + 2 * v * 0) (g .most) (omega arith) refl (c .weight-limit .ensures .0 p v)),
       c .weight-limit .ensures .1,
     )
 

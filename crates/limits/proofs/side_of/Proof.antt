@@ -1,5 +1,6 @@
 -- `limits::side_of` meets its contract: the sums as they stand. Assumes nothing.
 use mathlib.Core.Path.{refl}
+use native.Mathlib.Nat.{mul-le-mul}
 use native.Mathlib.Omega.{arith}
 use borrow.Author.Needs.{needs}
 use Rattle.limits.proofs.Laws.{side-at}
@@ -17,7 +18,7 @@ returns c =
     let t = c .times .ensures in
     let g = c .before .pre in (
       λ p v. side-at _ _ _ _ (rw (t .0)) refl refl p v,
-      record { base = omega (arith, t .1, g .0); front = omega (arith, g .3); water = omega (arith, g .4) },
+      record { base = omega (arith, t .0, mul-le-mul (g .1) (g .2), g .0); front = omega (arith, g .3); water = omega (arith, g .4) },
     )
 
 pub side-of-spec : {M : Type 1} → statement M

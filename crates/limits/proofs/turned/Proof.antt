@@ -5,7 +5,7 @@ use native.Mathlib.Nat.{mul-le-mul}
 use Rattle.limits.proofs.turned.Statement.{statement}
 use Rattle.limits.proofs.turned.Tie as tie
 
-below : (c : tie.Start) → c .args .weight * c .args .arm ≤ 160000000000000
+below : (c : tie.Start) → c .args .weight * c .args .arm ≤ 200000000000000
 below c = mul-le-mul (c .pre .0) (c .pre .1)
 
 mul-result : tie.Need-mul-result
