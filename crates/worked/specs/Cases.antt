@@ -1,5 +1,5 @@
--- What the table of cases does not say: a mistake that the paper warns of, G's file, and a journal. Each is computed from the
--- definitions.
+-- What the table of cases does not say: a mistake that the paper warns of, the files of G, of K and of a paired weighing in each
+-- version, and a journal. Each is computed from the definitions.
 use mathlib.Core.Path.{_≡_, refl}
 use mathlib.Core.Bool.{true, _&&_}
 use mathlib.Core.List.{List, [], _∷_, _++_}
@@ -10,76 +10,132 @@ use lib.ListN.{take}
 use Rattle.paper.specs.declared.Sheet.{Sheet}
 use Rattle.paper.specs.declared.Row.{Row}
 use Rattle.paper.specs.declared.Row.the-variants.{Range}
+use Rattle.paper.specs.declared.Weighing.{Weighing}
 use Rattle.paper.specs.declared.Entry.{Entry}
-use Rattle.paper.specs.Units.{isWeight, isArm}
-use Rattle.paper.specs.Record.{Balance, totalOf, momentOf, weighed, changesOf, lastWeighing, balanceOf}
-use Rattle.paper.specs.Rows.{weightWith, momentWith, lines, all, anyFails, keepsAt, breaksAt, isStep, smallest, largest, rowOf, joined, rowCount}
-use Rattle.paper.specs.File.{bytesOf, numberOf, fieldBytes, fieldValue, layoutOf, entryOf, fieldsBytes, entryBytes, bodyBytes, fileBytes, takeNumber, takeFields, takeEntry, takeEntries, takeBody, laidOut}
-use Rattle.paper.specs.Refusals.{firstNumber, full, isTotal, isNonLifting, badReading, badDistance, weighingFaults, weighingNumber, badArms, badRanges, badRows, sheetFaults, sheetNumber, isNone, changeFaults, changeNumber}
+use Rattle.paper.specs.declared.Entry.the-variants as entry
+use Rattle.paper.specs.Units.{isWeight, isArm, halfGrams}
+use Rattle.paper.specs.Record.{Balance, totalOf, momentOf, alike, paired, weighed, with, changesOf, lastWeighing, balanceOf}
+use Rattle.paper.specs.Rows.{laden, atMost, lines, all, anyFails, keepsAt, breaksAt, isStep, smallest, largest, rowOf, joined, rowCount}
+use Rattle.paper.specs.File.{bytesOf, numberOf, fieldBytes, fieldValue, layoutOf, entryOf, fieldsBytes, entryBytes, bodyAs, fileAs, fileBytes, takeNumber, takeFields, takeEntry, takeEntries, isVersion, lastKind, kindsTo, takeBody, laidOut}
+use Rattle.paper.specs.Refusals.{firstNumber, full, badReading, badDistance, badPart, weighingFaults, weighingNumber, badArms, badRanges, badRows, sheetFaults, sheetNumber, isNone, changeFaults, changeNumber}
 use Rattle.paper.specs.Refusals.{undoNumber, entryNumber, acceptedAfter, accepted, fileOf, readingNumber}
-use Rattle.paper.specs.Journal.{Call, weigh, install, change, undo, read, callNumber, withoutLast, acceptedCall, afterBy, journalBy, numbersBy, journal, numbers}
-use Rattle.worked.specs.Plates.{minus, blanik, blanikSheet, astir, astirSheet, G}
+use Rattle.paper.specs.Journal.{Call, weigh, pair, install, change, undo, read, callNumber, withoutLast, acceptedCall, afterBy, journalBy, numbersBy, journal, numbers}
+use Rattle.worked.specs.Plates.{minus, blanik, blanikSheet, astir, astirSheet, G, pairOf, astirPair}
 
 -- ---- judging water with the tank full only: G's second row would begin at 64 kg, and that step breaks a limit with none
 
 fullOnly : Sheet → Balance → ℕ → ℕ → Row
-unfolding rowOf smallest largest isStep keepsAt all lines weightWith momentWith
+unfolding rowOf smallest largest isStep keepsAt all lines laden with atMost halfGrams
 fullOnly s b r w = rowOf (λ (p : ℕ). isStep s p && keepsAt s b r p w) (s .front .most)
 
-full-only : fullOnly (astirSheet (minus 47500)) (weighed astir) 0 50000 ≡ Range 64000 92000
+full-only : fullOnly (astirSheet (minus 47500)) (weighed (alike astir)) 0 50000 ≡ Range 64000 92000
 unfolding fullOnly weighed totalOf momentOf
 full-only = refl
 
-broken-empty : breaksAt (astirSheet (minus 47500)) (weighed astir) 0 64000 0 ≡ true
-unfolding breaksAt anyFails lines weightWith momentWith weighed totalOf momentOf
+broken-empty : breaksAt (astirSheet (minus 47500)) (weighed (alike astir)) 0 64000 0 ≡ true
+unfolding breaksAt anyFails lines laden with atMost halfGrams weighed totalOf momentOf
 broken-empty = refl
 
--- ---- G's file, written and read back
+-- ---- a pair of equal readings is the plain weighing
 
-G-file : List ℕ
-G-file =
-    0 ∷ 0 ∷ 0 ∷ 85 ∷ 1 ∷ 2 ∷ 1 ∷ 1 ∷ 0 ∷ 4 ∷ 101 ∷ 0 ∷ 0 ∷ 0 ∷ 0 ∷ 0 ∷ 0 ∷ 0 ∷
+pair-of-equals : (w : Weighing) → paired (pairOf w (w .p) (w .q)) ≡ alike w
+pair-of-equals w = refl
+
+-- ---- G's file in a version: written in the second and read back in both
+
+G-file : ℕ → List ℕ
+G-file v =
+    0 ∷ 0 ∷ 0 ∷ 85 ∷ v ∷ 2 ∷ 1 ∷ 1 ∷ 0 ∷ 4 ∷ 101 ∷ 0 ∷ 0 ∷ 0 ∷ 0 ∷ 0 ∷ 0 ∷ 0 ∷
     247 ∷ 102 ∷ 0 ∷ 7 ∷ 161 ∷ 32 ∷ 0 ∷ 2 ∷ 34 ∷ 224 ∷ 2 ∷ 0 ∷ 0 ∷ 97 ∷ 168 ∷ 0 ∷ 0 ∷ 166 ∷
     4 ∷ 0 ∷ 5 ∷ 204 ∷ 96 ∷ 0 ∷ 6 ∷ 221 ∷ 208 ∷ 0 ∷ 3 ∷ 169 ∷ 128 ∷ 255 ∷ 255 ∷ 70 ∷ 116 ∷ 0 ∷
     0 ∷ 214 ∷ 216 ∷ 0 ∷ 1 ∷ 173 ∷ 176 ∷ 0 ∷ 0 ∷ 3 ∷ 232 ∷ 0 ∷ 0 ∷ 0 ∷ 0 ∷ 0 ∷ 0 ∷ 0 ∷
     0 ∷ 0 ∷ 0 ∷ 0 ∷ 1 ∷ 0 ∷ 0 ∷ 117 ∷ 48 ∷ 0 ∷ 1 ∷ 134 ∷ 160 ∷ 0 ∷ 0 ∷ 195 ∷ 80 ∷ []
 
-G-written : fileBytes G ≡ G-file
-unfolding fileBytes bodyBytes entryBytes fieldsBytes fieldBytes bytesOf layoutOf joined G-file
+G-written : fileBytes G ≡ G-file 2
+unfolding fileAs bodyAs entryBytes fieldsBytes fieldBytes bytesOf layoutOf joined G-file
 G-written = refl
 
 -- the list that some bytes are the file of
 read-back : List ℕ → Option (List Entry)
-unfolding fileOf laidOut takeBody takeEntries takeEntry takeFields takeNumber numberOf fieldValue layoutOf entryOf bind accepted acceptedAfter entryNumber weighingNumber sheetNumber changeNumber weighingFaults sheetFaults changeFaults firstNumber full isTotal isNonLifting badReading badDistance badArms badRanges badRows rowCount isWeight isArm weighed totalOf momentOf
+unfolding fileOf laidOut takeBody isVersion lastKind kindsTo takeEntries takeEntry takeFields takeNumber numberOf fieldValue layoutOf entryOf bind accepted acceptedAfter entryNumber weighingNumber sheetNumber changeNumber weighingFaults sheetFaults changeFaults firstNumber full badReading badDistance badPart badArms badRanges badRows rowCount isWeight isArm totalOf
 read-back xs = fileOf xs
 
-G-read : read-back G-file ≡ some G
+G-read : read-back (G-file 2) ≡ some G
 unfolding read-back G-file
 G-read = refl
 
+G-read-first : read-back (G-file 1) ≡ some G
+unfolding read-back G-file
+G-read-first = refl
+
+-- a version that there is not
+G-third : read-back (G-file 3) ≡ none
+unfolding read-back G-file
+G-third = refl
+
 -- a byte left over, and a byte too few
-G-longer : read-back (G-file ++ 0 ∷ []) ≡ none
+G-longer : read-back (G-file 2 ++ 0 ∷ []) ≡ none
 unfolding read-back G-file
 G-longer = refl
 
-G-shorter : read-back (take 88 G-file) ≡ none
+G-shorter : read-back (take 88 (G-file 2)) ≡ none
 unfolding read-back G-file
 G-shorter = refl
 
-K-read : read-back (0 ∷ 0 ∷ 0 ∷ 2 ∷ 1 ∷ 0 ∷ []) ≡ some []
-unfolding read-back
+-- ---- K's file, which the table has written: read back in both versions
+
+K-file : ℕ → List ℕ
+K-file v = 0 ∷ 0 ∷ 0 ∷ 2 ∷ v ∷ 0 ∷ []
+
+K-read : read-back (K-file 2) ≡ some []
+unfolding read-back K-file
 K-read = refl
 
--- ---- the journal: a change before a weighing, a weighing, a sheet, taking back, reading K, and taking back from nothing
+K-read-first : read-back (K-file 1) ≡ some []
+unfolding read-back K-file
+K-read-first = refl
+
+-- ---- the file of a paired weighing: the first version does not have that kind
+
+pair-file : ℕ → List ℕ
+pair-file v =
+    0 ∷ 0 ∷ 0 ∷ 32 ∷ v ∷ 1 ∷ 4 ∷ 1 ∷ 0 ∷ 4 ∷ 101 ∷ 0 ∷ 0 ∷ 0 ∷ 0 ∷ 0 ∷ 0 ∷ 4 ∷ 101 ∷ 1 ∷
+    0 ∷ 0 ∷ 0 ∷ 0 ∷ 0 ∷ 0 ∷ 247 ∷ 102 ∷ 0 ∷ 7 ∷ 161 ∷ 32 ∷ 0 ∷ 2 ∷ 34 ∷ 224 ∷ []
+
+pair-written : fileBytes (entry.Paired astirPair ∷ []) ≡ pair-file 2
+unfolding fileAs bodyAs entryBytes fieldsBytes fieldBytes bytesOf layoutOf joined pair-file
+pair-written = refl
+
+pair-read : read-back (pair-file 2) ≡ some (entry.Paired astirPair ∷ [])
+unfolding read-back pair-file
+pair-read = refl
+
+pair-first : read-back (pair-file 1) ≡ none
+unfolding read-back pair-file
+pair-first = refl
+
+pair-third : read-back (pair-file 3) ≡ none
+unfolding read-back pair-file
+pair-third = refl
+
+-- ---- the journal: a change before a weighing, a weighing, a paired weighing whose n is above the smaller total, one that is
+-- accepted, a sheet, taking back, reading K, and taking back from nothing
 
 calls : List Call
 calls =
-    change (record { c = pos 1; arm = pos 0; flag = 0 }) ∷ weigh blanik ∷ install blanikSheet ∷ undo ∷ read (0 ∷ 0 ∷ 0 ∷ 2 ∷ 1 ∷ 0 ∷ []) ∷ undo ∷ []
+    change (record { c = pos 1; arm = pos 0; flag = 0 }) ∷
+    weigh blanik ∷
+    pair (record { m = 1; p = 288000; q = 0; p2 = 287999; q2 = 0; a = pos 63334; b = 500000; n = 288000 }) ∷
+    pair astirPair ∷
+    install blanikSheet ∷
+    undo ∷
+    read (K-file 2) ∷
+    undo ∷ []
 
-calls-numbers : numbers calls ≡ 7 ∷ 0 ∷ 0 ∷ 0 ∷ 0 ∷ 10 ∷ []
-unfolding numbers numbersBy callNumber afterBy acceptedCall withoutLast undoNumber readingNumber read-back balanceOf lastWeighing changesOf orElse isNone calls
+calls-numbers : numbers calls ≡ 7 ∷ 0 ∷ 3 ∷ 0 ∷ 0 ∷ 0 ∷ 0 ∷ 10 ∷ []
+unfolding numbers numbersBy callNumber afterBy acceptedCall withoutLast undoNumber readingNumber read-back balanceOf lastWeighing changesOf orElse isNone calls K-file
 calls-numbers = refl
 
 calls-journal : journal calls ≡ []
-unfolding journal journalBy callNumber afterBy acceptedCall withoutLast undoNumber readingNumber read-back balanceOf lastWeighing changesOf orElse isNone calls
+unfolding journal journalBy callNumber afterBy acceptedCall withoutLast undoNumber readingNumber read-back balanceOf lastWeighing changesOf orElse isNone calls K-file
 calls-journal = refl

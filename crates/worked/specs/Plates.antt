@@ -4,6 +4,7 @@ use Prim.Native.Nat.{ℕ}
 use lib.IntN.{ℤ, pos, negℤ}
 use Rattle.paper.specs.declared.Station.{Station}
 use Rattle.paper.specs.declared.Weighing.{Weighing}
+use Rattle.paper.specs.declared.Paired.{Paired}
 use Rattle.paper.specs.declared.Sheet.{Sheet}
 use Rattle.paper.specs.declared.Entry.{Entry}
 use Rattle.paper.specs.declared.Entry.the-variants as entry
@@ -66,6 +67,19 @@ I = entry.Weighing astir ∷ entry.Sheet (astirSheet (pos 41625)) ∷ []
 
 abbrev pub J : List Entry
 J = entry.Weighing blanik ∷ entry.Sheet blanikSheet ∷ []
+
+-- two lists of paired weighings: the Astir with a gram more at the second reading, and with two equal readings
+abbrev pub pairOf : Weighing → ℕ → ℕ → Paired
+pairOf w p q = record { m = w .m; p = w .p; q = w .q; p2 = p; q2 = q; a = w .a; b = w .b; n = w .n }
+
+abbrev pub astirPair : Paired
+astirPair = pairOf astir 288001 0
+
+abbrev pub gramMore : List Entry
+gramMore = entry.Paired astirPair ∷ entry.Sheet (astirSheet (minus 47500)) ∷ []
+
+abbrev pub equals : List Entry
+equals = entry.Paired (pairOf astir 288000 0) ∷ entry.Sheet (astirSheet (minus 47500)) ∷ []
 
 -- two lists beside the paper's, with loads that are no whole kilograms: the Astir with the front load in quarters of a kilogram
 abbrev pub quarters : List Entry

@@ -16,8 +16,9 @@ use Rattle.paper.specs.declared.Sheet.{Sheet}
 use Rattle.paper.specs.declared.Row.{Row}
 use Rattle.paper.specs.declared.Row.the-variants.{Range, Blank}
 use Rattle.paper.specs.declared.Placard.{Placard}
-use Rattle.paper.specs.Record.{Balance}
-use Rattle.paper.specs.Rows.{weightWith, momentWith, lines, all, keepsAt, isStep, keeps, smallest, largest, rowOf, row, joined, loads, rowCount}
+use Rattle.paper.specs.Units.{halfGrams}
+use Rattle.paper.specs.Record.{Balance, with}
+use Rattle.paper.specs.Rows.{laden, atMost, lines, all, keepsAt, isStep, keeps, smallest, largest, rowOf, row, joined, loads, rowCount}
 use Rattle.paper.specs.Placard.{line, text, textLength, blankOf, blankCount}
 use Rattle.paper.specs.Answers.{over, placardGiven, placardRefused, placardBy}
 use Rattle.planes.proofs.Searches.{Outcome, a-range, a-blank, outcome, row-of-ends, row-of-none}
@@ -65,7 +66,7 @@ by-steps q n f h = by (outcome (λ (k : ℕ). q (k * f)) (n / f))
 
 -- a front load is a step, and every line holds with none of the water and with all of it
 keepsBoth : Sheet → Balance → ℕ → ℕ → ℕ → Bool
-unfolding isStep keepsAt all lines weightWith momentWith
+unfolding isStep keepsAt all lines laden with atMost halfGrams
 keepsBoth s b r w p = isStep s p && (keepsAt s b r p 0 && keepsAt s b r p w)
 
 unfoldable pub rowBy : Sheet → Balance → ℕ → ℕ → Row

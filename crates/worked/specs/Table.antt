@@ -21,23 +21,23 @@ use Rattle.paper.specs.declared.Row.the-variants.{Range, Blank}
 use Rattle.paper.specs.declared.Entry.{Entry}
 use Rattle.paper.specs.declared.Entry.the-variants as entry
 use Rattle.paper.specs.declared.Placard.{Placard}
-use Rattle.paper.specs.Units.{isWeight, isArm}
-use Rattle.paper.specs.Record.{Balance, totalOf, momentOf, weighed, changed, changedBy, changesOf, lastWeighing, balanceOf, centreOf, sheetOf}
-use Rattle.paper.specs.Rows.{weightWith, momentWith, lines, all, keepsAt, row, below, loadsOf, joined, loads, rowCount}
+use Rattle.paper.specs.Units.{isWeight, isArm, halfGrams}
+use Rattle.paper.specs.Record.{Balance, totalOf, momentOf, alike, weighed, with, changed, changedBy, changesOf, lastWeighing, balanceOf, centreOf, sheetOf}
+use Rattle.paper.specs.Rows.{laden, atMost, lines, all, keepsAt, row, below, loadsOf, joined, loads, rowCount}
 use Rattle.paper.specs.Placard.{feed, digits, kilograms, ends, line, text, textLength, blankOf}
-use Rattle.paper.specs.File.{bytesOf, fieldBytes, layoutOf, fieldsBytes, entryBytes, bodyBytes, fileBytes}
-use Rattle.paper.specs.Refusals.{firstNumber, full, isTotal, isNonLifting, badReading, badDistance, weighingFaults, weighingNumber, badArms, badRanges, badRows, sheetFaults, sheetNumber, isNone, afterwards, isChange, badChange, changeFaults, changeNumber}
+use Rattle.paper.specs.File.{bytesOf, fieldBytes, layoutOf, fieldsBytes, entryBytes, bodyAs, fileAs, fileBytes}
+use Rattle.paper.specs.Refusals.{firstNumber, full, isTotal, isNonLifting, badReading, badDistance, badPart, weighingFaults, weighingNumber, badArms, badRanges, badRows, sheetFaults, sheetNumber, isNone, afterwards, isChange, badChange, changeFaults, changeNumber}
 use Rattle.paper.specs.Refusals.{placardTooLong, placardNumber, entryNumber, acceptedAfter, accepted}
 use Rattle.paper.specs.Answers.{over, placardRefused, placardAnswer}
 use Rattle.planes.proofs.Convex.{convex}
-use Rattle.worked.specs.Plates.{minus, weighing, blanik, G, H, I, J, quarters, grams}
+use Rattle.worked.specs.Plates.{minus, weighing, blanik, G, H, I, J, gramMore, equals, quarters, grams}
 use Rattle.worked.specs.Equal.{eqRow, same-row, Line, eqLine, same-line, eqAnswer, same-answer}
 use Rattle.worked.specs.Search.{rowBy, row-is, textBy, text-is, answerBy, answer-is}
 
 -- ---- the table
 
 pub data Case : Type 0 where
-  -- a weighing, its total and its moment
+  -- a weighing, its total and its moment, in half grams
   weighs : Weighing → ℤ → ℤ → Case
   -- a weighing and its empty centre of gravity
   centres : Weighing → ℤ → Case
@@ -63,6 +63,13 @@ abbrev pub printed : List String → List ℕ
 printed [] = []
 printed (l ∷ ls) = bytes l ++ feed ∷ printed ls
 
+-- G's rows
+abbrev G-rows : List Line
+G-rows =
+    (0, 0, Range 71000 92000) ∷
+    (0, 50000, Range 71000 92000) ∷
+    (0, 100000, Blank) ∷ []
+
 -- J's placard
 abbrev J-lines : List String
 J-lines =
@@ -73,24 +80,20 @@ J-lines =
 abbrev pub table : List Case
 table =
     -- A
-    weighs blanik (pos 310000) (pos 19390000000) ∷
+    weighs blanik (pos 620000) (pos 38780000000) ∷
     -- B
     centres blanik (pos 62548) ∷
     -- C
-    weighs (weighing 2 310000 280100 (minus 9500) 550000) (pos 310000) (pos 19390000000) ∷
+    weighs (weighing 2 310000 280100 (minus 9500) 550000) (pos 620000) (pos 38780000000) ∷
     -- D
-    weighs (weighing 3 355 90 (pos 50) 13350) (pos 445) (pos 1179250) ∷
+    weighs (weighing 3 355 90 (pos 50) 13350) (pos 890) (pos 2358500) ∷
     -- E
-    weighs (weighing 4 460 15 (pos 3000) 10300) (pos 445) (pos 1180500) ∷
+    weighs (weighing 4 460 15 (pos 3000) 10300) (pos 890) (pos 2361000) ∷
     -- F
     centres (weighing 1 2 1 (pos 0) 50001) (pos 25001) ∷
     centres (weighing 1 2 1 (minus 50001) 50001) (minus 25000) ∷
     -- G
-    rows G (
-    (0, 0, Range 71000 92000) ∷
-    (0, 50000, Range 71000 92000) ∷
-    (0, 100000, Blank) ∷ []
-    ) ∷
+    rows G G-rows ∷
     prints G (
     "0000.000 0000.000 0071.000 0092.000" ∷
     "0000.000 0050.000 0071.000 0092.000" ∷
@@ -108,8 +111,16 @@ table =
     (110000, 0, Range 40000 80000) ∷ []
     ) ∷
     -- K
-    files [] (0 ∷ 0 ∷ 0 ∷ 2 ∷ 1 ∷ 0 ∷ []) ∷
-    -- beside the paper's: J into a buffer with two bytes more, of exactly its length, and with one too few
+    files [] (0 ∷ 0 ∷ 0 ∷ 2 ∷ 2 ∷ 0 ∷ []) ∷
+    -- beside the paper's: the Astir at 288,000 and 288,001 g has room for 91 kg below DRY and not for 92, and at two equal readings
+    -- it has G's rows
+    rows gramMore (
+    (0, 0, Range 71000 91000) ∷
+    (0, 50000, Range 71000 91000) ∷
+    (0, 100000, Blank) ∷ []
+    ) ∷
+    rows equals G-rows ∷
+    -- J into a buffer with two bytes more, of exactly its length, and with one too few
     places J (replicate 110 7) (record { number = 0; bytes = 108; rows = 3; blank = 0 }) (printed J-lines ++ 7 ∷ 7 ∷ []) ∷
     places J (replicate 108 7) (record { number = 0; bytes = 108; rows = 3; blank = 0 }) (printed J-lines) ∷
     places J (replicate 107 7) (record { number = 11; bytes = 0; rows = 0; blank = 0 }) (replicate 107 7) ∷
@@ -167,8 +178,8 @@ entriesOf (places es buffer a left) = es
 -- what they give; the exact minimum, whatever the front step: no load up to the lower one keeps the limits, and the upper one
 -- does
 abbrev pub Gives : Case → Type 0
-Gives (weighs w g m) = (totalOf w ≡ g) × (momentOf w ≡ m)
-Gives (centres w c) = centreOf (weighed w) ≡ c
+Gives (weighs w g m) = (weighed (alike w) .total ≡ g) × (weighed (alike w) .moment ≡ m)
+Gives (centres w c) = centreOf (weighed (alike w)) ≡ c
 Gives (a-row es r w x) = Has es (λ s b. row s b r w ≡ x)
 Gives (begins es lo hi) =
     Has es (λ s b. ((p : ℕ) → p ≤ lo → keepsAt s b 0 p 0 ≡ false) × (keepsAt s b 0 hi 0 ≡ true))
@@ -189,9 +200,9 @@ has (some s) none t = false
 has (some s) (some b) t = t s b
 
 gives : Case → Bool
-unfolding totalOf momentOf weighed centreOf sheetOf balanceOf lastWeighing changesOf changedBy changed orElse keepsAt all lines weightWith momentWith rowBy loads loadsOf joined below line kilograms digits ends fileBytes bodyBytes entryBytes fieldsBytes fieldBytes bytesOf layoutOf placardNumber placardTooLong placardRefused firstNumber isNone textLength rowCount blankOf over
-gives (weighs w g m) = eqZ (totalOf w) g && eqZ (momentOf w) m
-gives (centres w c) = eqZ (centreOf (weighed w)) c
+unfolding totalOf momentOf weighed centreOf sheetOf balanceOf lastWeighing changesOf changedBy changed with halfGrams orElse keepsAt all lines laden atMost rowBy loads loadsOf joined below line kilograms digits ends fileAs bodyAs entryBytes fieldsBytes fieldBytes bytesOf layoutOf placardNumber placardTooLong placardRefused firstNumber isNone textLength rowCount blankOf over
+gives (weighs w g m) = eqZ (weighed (alike w) .total) g && eqZ (weighed (alike w) .moment) m
+gives (centres w c) = eqZ (centreOf (weighed (alike w))) c
 gives (a-row es r w x) = has (sheetOf es) (balanceOf es) (λ s b. eqRow (rowBy s b r w) x)
 gives (begins es lo hi) =
     has (sheetOf es) (balanceOf es) (λ s b. leb lo hi && (not (keepsAt s b 0 lo 0) && keepsAt s b 0 hi 0))
@@ -202,7 +213,7 @@ gives (places es buffer a left) =
     eqAnswer (answerBy (placardNumber es (length buffer)) (sheetOf es) (balanceOf es) buffer) (a, left)
 
 accepts : List Entry → Bool
-unfolding accepted acceptedAfter entryNumber weighingNumber sheetNumber changeNumber weighingFaults sheetFaults changeFaults firstNumber full isNone afterwards isTotal isNonLifting badReading badDistance badArms badRanges badRows isChange badChange rowCount isWeight isArm weighed totalOf momentOf changed balanceOf lastWeighing changesOf changedBy orElse
+unfolding accepted acceptedAfter entryNumber weighingNumber sheetNumber changeNumber weighingFaults sheetFaults changeFaults firstNumber full isNone afterwards isTotal isNonLifting badReading badDistance badPart badArms badRanges badRows isChange badChange rowCount isWeight isArm weighed totalOf momentOf changed with halfGrams balanceOf lastWeighing changesOf changedBy orElse
 accepts es = accepted es
 
 -- ---- what passes is as the case says
@@ -223,10 +234,11 @@ begins-told s b lo hi h e k p m =
 told : (c : Case) → gives c ≡ true → Gives c
 unfolding gives placardAnswer
 told (weighs w g m) e =
-    let t = eqZ (totalOf w) g in
-    let u = eqZ (momentOf w) m in
-    (same-Z (totalOf w) g (left t u e), same-Z (momentOf w) m (right t u e))
-told (centres w c) e = same-Z (centreOf (weighed w)) c e
+    let b = weighed (alike w) in
+    let t = eqZ (b .total) g in
+    let u = eqZ (b .moment) m in
+    (same-Z (b .total) g (left t u e), same-Z (b .moment) m (right t u e))
+told (centres w c) e = same-Z (centreOf (weighed (alike w))) c e
 told (a-row es r w x) e =
     has-told es _ (λ s b t. ap (λ (f : ℕ → ℕ → Row). f r w) (row-is s b) ∙ same-row (rowBy s b r w) x t) e
 told (begins es lo hi) e =
