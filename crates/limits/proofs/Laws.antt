@@ -62,6 +62,7 @@ no-halves : (n : ℕ) → eqb (2 * n) 0 ≡ eqb n 0
 no-halves zero = refl
 no-halves (suc n) = ne-eqb (2 * suc n) 0 (omega arith) ∙ sym (ne-eqb (suc n) 0 (omega arith))
 
+-- so a limit of no half grams is none
 unless : {t : Bool} (n k m m′ : ℕ) → k ≡ 2 * n → m′ ≡ m → (eqb k 0 || leb m k) ≡ t → (eqb n 0 || leb m′ (2 * n + 0)) ≡ t
 unless n k m m′ e f h = rw (f, add-zero (2 * n), ← e, ← no-halves n, ← e) h
 
