@@ -116,3 +116,34 @@ pub fn change_at(s: &[u8], at: usize) -> [u32; FIELDS]
         0,
     ]
 }
+
+// The words of a paired weighing: m; p, q, p', q', a, b, n.
+pub fn paired_at(s: &[u8], at: usize) -> [u32; FIELDS]
+    requires { ⌜ at + 29 ≤ length (now s) ⌝ }
+    ensures { λ r. ⌜ r ≡ wordsAt 4 (drop at (now (s .entry))) ⌝ }
+{
+    let p = at + 1;
+    let q = p + 4;
+    let p2 = q + 4;
+    let q2 = p2 + 4;
+    let a = q2 + 4;
+    let b = a + 4;
+    let n = b + 4;
+    [
+        number_at(s, at, 1),
+        number_at(s, p, 4),
+        number_at(s, q, 4),
+        number_at(s, p2, 4),
+        number_at(s, q2, 4),
+        number_at(s, a, 4),
+        number_at(s, b, 4),
+        number_at(s, n, 4),
+        0,
+        0,
+        0,
+        0,
+        0,
+        0,
+        0,
+    ]
+}
