@@ -75,9 +75,9 @@ pub kind-got : (s : List ℕ) (at k : ℕ) (x : Walk) → at < length s → getD
 kind-got s at k x h e l w =
     w ∙ ap (λ (j : ℕ). fieldsWalk j s (at + 1)) (sym e) ∙ kind-here s at h (fieldsAt k) (ap layoutOf e ∙ l)
 
-pub no-kind-got : (s : List ℕ) (at k : ℕ) → at < length s → getD s at 0 ≡ k → (k ≡ 1 → ⊥) → (k ≡ 2 → ⊥) → (k ≡ 3 → ⊥) → Nothing ≡ walkAt s at
+pub no-kind-got : (s : List ℕ) (at k : ℕ) → at < length s → getD s at 0 ≡ k → (k ≡ 1 → ⊥) → (k ≡ 2 → ⊥) → (k ≡ 3 → ⊥) → (k ≡ 4 → ⊥) → Nothing ≡ walkAt s at
 unfolding layoutOf
-no-kind-got s at k h e a b c = no-row-here s at h (ap layoutOf e ∙ rw (ne-eqb k 1 a, ne-eqb k 2 b, ne-eqb k 3 c))
+no-kind-got s at k h e a b c d = no-row-here s at h (ap layoutOf e ∙ rw (ne-eqb k 1 a, ne-eqb k 2 b, ne-eqb k 3 c, ne-eqb k 4 d))
 
 -- the fields of a kind that takes n bytes behind its own
 module _ (k : ℕ) (s : List ℕ) (from n : ℕ) (e : n ≡ total (widths (fieldsAt k))) where

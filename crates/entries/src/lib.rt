@@ -70,6 +70,17 @@ fn change_from(s: &[u8], from: usize) -> Walk
     Walk::Got(layout::entry_of(3, fields::change_at(s, from)), from + 9)
 }
 
+// Behind the kind of a paired weighing.
+fn paired_from(s: &[u8], from: usize) -> Walk
+    requires { ⌜ from ≤ length (now s) ⌝ }
+    ensures { λ r. ⌜ r ≡ fieldsWalk 4 (now (s .entry)) from ⌝ }
+{
+    if s.len() - from < 29 {
+        return Walk::Nothing;
+    }
+    Walk::Got(layout::entry_of(4, fields::paired_at(s, from)), from + 29)
+}
+
 // The entry at a place.
 pub fn next_entry(s: &[u8], at: usize) -> Walk
     ensures { λ r. ⌜ r ≡ walkAt (now (s .entry)) at ⌝ }
@@ -82,6 +93,7 @@ pub fn next_entry(s: &[u8], at: usize) -> Walk
         1 => weighing_from(s, at + 1),
         2 => sheet_from(s, at + 1),
         3 => change_from(s, at + 1),
+        4 => paired_from(s, at + 1),
         _ => Walk::Nothing,
     }
 }

@@ -31,6 +31,12 @@ add-change-from c = search needs
 change-from-requires : tie.Need-change-from-requires
 change-from-requires c κs = search needs
 
+add-paired-from : tie.Need-add-paired-from
+add-paired-from c = search needs
+
+paired-from-requires : tie.Need-paired-from-requires
+paired-from-requires c κs = search needs
+
 returns-2 : tie.Need-returns-2
 unfolding layoutOf
 returns-2 c =
@@ -56,11 +62,19 @@ returns-4 c =
     kind-got (a .s .now) (a .at) 3 _ (t .if1 .left) (b .match .keys3) refl (c .change-from .ensures)
 
 returns-5 : tie.Need-returns-5
+unfolding layoutOf
 returns-5 c =
+    let b = c .before in
+    let t = b .before .before in
+    let a = t .before .before .args in
+    kind-got (a .s .now) (a .at) 4 _ (t .if1 .left) (b .match .keys4) refl (c .paired-from .ensures)
+
+returns-6 : tie.Need-returns-6
+returns-6 c =
     let t = c .before .before in
     let a = t .before .before .args in
     let m = c .match .rest in
-    no-kind-got (a .s .now) (a .at) _ (t .if1 .left) refl (m .0 .0 .1) (m .0 .1) (m .1)
+    no-kind-got (a .s .now) (a .at) _ (t .if1 .left) refl (m .0 .0 .0 .1) (m .0 .0 .1) (m .0 .1) (m .1)
 
 pub next-entry-spec : {M : Type 1} → statement M
 next-entry-spec =
@@ -74,7 +88,10 @@ next-entry-spec =
     sheet-from-requires
     add-change-from
     change-from-requires
+    add-paired-from
+    paired-from-requires
     returns-2
     returns-3
     returns-4
-    returns-5)
+    returns-5
+    returns-6)
