@@ -14,12 +14,14 @@ use borrow.Author.Tests.{le-leb, lt-leb, leb-true, eq-eqb, ne-eqb}
 use Rattle.laws.specs.Options.{none-either, tests-both}
 use Rattle.laws.specs.Tests.{left, isnt}
 use Rattle.paper.specs.declared.Entry.{Entry}
-use Rattle.paper.specs.File.{numberOf, version, takeNumber, takeEntries, takeBody, laidOut}
+use Rattle.paper.specs.File.{numberOf, takeNumber, takeEntries, isVersion, lastKind, onlyKinds, takeBody, laidOut}
 use Rattle.paper.specs.Refusals.{accepted, onlyAccepted, fileOf}
 use Rattle.format.specs.Numbers.{bytes-drop}
 use Rattle.format.specs.Entries.{entries-written}
+use Rattle.format.specs.Files.{only-kinds}
 use Rattle.judge.proofs.Accepted.{at-most-64}
 use Rattle.stored.specs.Header.{headed}
+use Rattle.stored.specs.Kinds.{entriesTo}
 
 pub too-few : (xs : List ℕ) → length xs < 6 → headed xs ≡ false
 unfolding headed
@@ -30,11 +32,11 @@ unfolding headed
 enough-bytes xs h =
     let a = leb 6 (length xs) in
     let b = eqb (numberOf (take 4 xs)) (length xs - 4) in
-    leb-true 6 (length xs) (left a b (left (a && b) (eqb (getD xs 4 0) version) h))
+    leb-true 6 (length xs) (left a b (left (a && b) (isVersion (getD xs 4 0)) h))
 
 -- n is the number that the first four spell
 module _ (xs : List ℕ) (n : ℕ) (e : n ≡ numberOf (take 4 xs)) where
-  pub by-version : 6 ≤ length xs → n ≡ length xs - 4 → eqb (getD xs 4 0) version ≡ headed xs
+  pub by-version : 6 ≤ length xs → n ≡ length xs - 4 → isVersion (getD xs 4 0) ≡ headed xs
   unfolding headed
   by-version h f = simp (le-leb 6 (length xs) h, eq-eqb (numberOf (take 4 xs)) (length xs - 4) (sym e ∙ f))
 
@@ -46,7 +48,11 @@ module _ (xs : List ℕ) (n : ℕ) (e : n ≡ numberOf (take 4 xs)) where
 
 -- ---- what the bytes are laid out as
 
-body-of : (xs : List ℕ) → 2 ≤ length xs → takeBody xs ≡ cond (eqb (getD xs 0 0) version) (takeEntries (getD xs 1 0) (drop 2 xs)) none
+-- entries of a version's kinds, by the version and the count that stand in front of them
+abbrev listed : ℕ → ℕ → List ℕ → Option (List Entry)
+listed v n xs = onlyKinds (lastKind v) (takeEntries n xs)
+
+body-of : (xs : List ℕ) → 2 ≤ length xs → takeBody xs ≡ cond (isVersion (getD xs 0 0)) (listed (getD xs 0 0) (getD xs 1 0) (drop 2 xs)) none
 unfolding takeBody
 body-of [] h = absurd (omega arith)
 body-of (v ∷ []) h = absurd (omega arith)
@@ -63,7 +69,11 @@ module _ (xs : List ℕ) where
   behind : length (drop 4 xs) ≡ length xs - 4
   behind = length-drop 4 xs
 
-  enough : 6 ≤ length xs → laidOut (xs) ≡ cond (areBytes xs) (cond (headed xs) (takeEntries (getD xs 5 0) (drop 6 xs)) none) none
+  -- what stands behind the header
+  abbrev entriesIn : Option (List Entry)
+  entriesIn = listed (getD xs 4 0) (getD xs 5 0) (drop 6 xs)
+
+  enough : 6 ≤ length xs → laidOut xs ≡ cond (areBytes xs) (cond (headed xs) entriesIn none) none
   unfolding laidOut takeNumber headed bind
   enough h =
       rw (
@@ -74,7 +84,7 @@ module _ (xs : List ℕ) where
         getD-drop 4 xs 1 0,
         drop-drop 2 4 xs,
         behind,
-        tests-both (eqb (numberOf (take 4 xs)) (length xs - 4)) (eqb (getD xs 4 0) version) (takeEntries (getD xs 5 0) (drop 6 xs)),
+        tests-both (eqb (numberOf (take 4 xs)) (length xs - 4)) (isVersion (getD xs 4 0)) entriesIn,
       )
 
   too-short : length xs < 6 → laidOut xs ≡ none
@@ -85,9 +95,9 @@ module _ (xs : List ℕ) where
         | no k ↦ rw (lt-leb 4 (length xs) (omega arith), none-either (areBytes xs))
       ]
 
-  by-header : areBytes xs ≡ true → laidOut xs ≡ cond (headed xs) (takeEntries (getD xs 5 0) (drop 6 xs)) none
+  by-header : areBytes xs ≡ true → laidOut xs ≡ cond (headed xs) entriesIn none
   by-header b =
-      elim (decLe 6 (length xs)) as (λ d. laidOut xs ≡ cond (headed xs) (takeEntries (getD xs 5 0) (drop 6 xs)) none) [
+      elim (decLe 6 (length xs)) as (λ d. laidOut xs ≡ cond (headed xs) entriesIn none) [
         | yes k ↦ rw b at (enough k)
         | no k ↦ too-short (omega arith) ∙ rw (too-few xs (omega arith))
       ]
@@ -98,16 +108,17 @@ module _ (xs : List ℕ) where
     unfolding fileOf
     bad-header e = ap onlyAccepted (rw e at (by-header b))
 
-    pub good-header : headed xs ≡ true → fileOf xs ≡ onlyAccepted (takeEntries (getD xs 5 0) (drop 6 xs))
+    pub good-header : headed xs ≡ true → fileOf xs ≡ entriesTo (lastKind (getD xs 4 0)) (getD xs 5 0) (drop 6 xs)
     unfolding fileOf
     good-header e = ap onlyAccepted (rw e at (by-header b))
 
     -- more entries than a record may have
     pub too-many : headed xs ≡ true → 64 < getD xs 5 0 → fileOf xs ≡ none
-    too-many e h = more-than (takeEntries (getD xs 5 0) (drop 6 xs)) refl
+    too-many e h = more-than entriesIn refl
       where
-        more-than : (o : Option (List Entry)) → takeEntries (getD xs 5 0) (drop 6 xs) ≡ o → fileOf xs ≡ none
+        more-than : (o : Option (List Entry)) → entriesIn ≡ o → fileOf xs ≡ none
         more-than none t = good-header e ∙ ap onlyAccepted t
         more-than (some es) t =
-            let n = entries-written (getD xs 5 0) (drop 6 xs) es (bytes-drop 6 xs b) t .1 in
+            let k = only-kinds (lastKind (getD xs 4 0)) (takeEntries (getD xs 5 0) (drop 6 xs)) es t in
+            let n = entries-written (getD xs 5 0) (drop 6 xs) es (bytes-drop 6 xs b) (k .1) .1 in
             good-header e ∙ ap onlyAccepted t ∙ rw (isnt (accepted es) (λ a. omega (arith, at-most-64 es a)))

@@ -1,14 +1,14 @@
 -- The parts of a file: the header as it is put, the entries behind it, how long they are, and what writing them answers.
 -- Assumes nothing.
-use mathlib.Core.Path.{_≡_, sym, ap, _∙_}
+use mathlib.Core.Path.{_≡_, refl, sym, ap, _∙_}
 use mathlib.Core.List.{List, [], _∷_, _++_, append-assoc}
 use Prim.Native.Nat.{ℕ, _+_, _-_, _≤_, _<_}
 use native.Mathlib.Omega.{arith}
-use lib.ListN.{length, set, length-append}
+use lib.ListN.{length, drop, set, length-append}
 use borrow.Author.Tests.{lt-ltb, le-ltb}
 use Rattle.laws.specs.Written.{written, length-written, written-one, written-follows}
 use Rattle.paper.specs.declared.Entry.{Entry}
-use Rattle.paper.specs.File.{bytesOf, version, bodyBytes, fileBytes}
+use Rattle.paper.specs.File.{bytesOf, bodyAs, fileAs, version, fileBytes}
 use Rattle.paper.specs.Refusals.{firstNumber, writingNumber}
 use Rattle.paper.specs.Answers.{over, writtenBy, writtenAnswer}
 use Rattle.format.specs.Numbers.{length-bytes}
@@ -20,16 +20,21 @@ length-header n count = omega (arith, length-append (bytesOf 4 n) (version ∷ b
 
 -- a file is its header and its entries
 pub file-parts : (es : List Entry) → fileBytes es ≡ headerOf (length (fileBytes es) - 4) (length es) ++ bytesIn es
-unfolding fileBytes bodyBytes
+unfolding fileAs bodyAs
 file-parts es =
-    let body = bodyBytes es in
+    let body = bodyAs version es in
     let size : length (fileBytes es) - 4 ≡ length body = omega (arith, length-append (bytesOf 4 (length body)) body, length-bytes 4 (length body)) in
-    rw (size) (sym (append-assoc (bytesOf 4 (length body)) (version ∷ bytesOf 1 (length es)) (bytesIn es)))
+    rw size (sym (append-assoc (bytesOf 4 (length body)) (version ∷ bytesOf 1 (length es)) (bytesIn es)))
 
 pub file-size : (es : List Entry) → length (fileBytes es) ≡ 6 + length (bytesIn es)
 file-size es =
     let n = length (fileBytes es) - 4 in
     ap length (file-parts es) ∙ length-append (headerOf n (length es)) (bytesIn es) ∙ ap (λ (k : ℕ). k + length (bytesIn es)) (length-header n (length es))
+
+-- in every version the entries begin at the seventh byte
+pub entries-behind : (v : ℕ) (es : List Entry) (r : List ℕ) → drop 6 (fileAs v es ++ r) ≡ bytesIn es ++ r
+unfolding fileAs bodyAs bytesOf
+entries-behind v es r = refl
 
 -- ---- the header, as it is put: the length, the version, the count
 

@@ -5,15 +5,15 @@ use mathlib.Core.List.{List, [], _∷_, _++_, map}
 use mathlib.Core.Option.{Option, none, some, orElse}
 use Prim.Native.Nat.{ℕ, _+_, _<_}
 use native.Mathlib.Omega.{arith}
-use lib.ListN.{length, drop, length-append}
+use lib.ListN.{length, length-append}
 use lib.Pow.{areBytes}
 use Rattle.laws.specs.Lists.{map-append, length-more}
 use Rattle.paper.specs.declared.Sheet.{Sheet}
 use Rattle.paper.specs.declared.Entry.{Entry}
 use Rattle.paper.specs.Record.{Balance, lastWeighing, balanceOf, asSheet, sheetOf}
 use Rattle.paper.specs.Rows.{joined}
-use Rattle.paper.specs.File.{entryBytes, takeEntries}
-use Rattle.paper.specs.Refusals.{entryNumber, acceptedAfter, accepted, onlyAccepted}
+use Rattle.paper.specs.File.{entryBytes}
+use Rattle.paper.specs.Refusals.{entryNumber}
 use Rattle.paper.specs.Journal.{withoutLast}
 use Rattle.paper.proofs.Lists.{joined-last, without-more}
 use Rattle.sheet.specs.declared.InForce.{InForce}
@@ -24,12 +24,11 @@ use Rattle.judge.specs.declared.Standing.{Standing}
 use Rattle.judge.specs.declared.Standing.the-variants.{Unweighed}
 use Rattle.judge.specs.Standing.{plainly, Sound, numberAt, after}
 use Rattle.judge.proofs.Following.{balance-more, number-at}
-use Rattle.judge.proofs.Accepted.{accepted-more}
 use Rattle.entries.specs.declared.Walk.the-variants.{Got}
-use Rattle.entries.specs.Walking.{walkAt}
 use Rattle.stored.specs.declared.Contents.{Contents}
+use Rattle.stored.specs.Kinds.{walkTo}
 use Rattle.stored.specs.Found.{bytesIn, ContentsOf}
-use Rattle.stored.proofs.Reading.{Rest, none-read, one-read, place-here}
+use Rattle.stored.proofs.Reading.{Passed, none-passed, one-passed, place-here}
 
 pub length-in : (es : List Entry) (e : Entry) → length (bytesIn (es ++ e ∷ [])) ≡ length (bytesIn es) + length (entryBytes e)
 length-in es e =
@@ -45,17 +44,16 @@ pub this-sheet : (e : Entry) (t : Sheet) (f : InForce) → asSheet e ≡ some t 
 unfolding orElse
 this-sheet e t f n = rw n
 
--- i entries are passed, and the walk stands at a place
-pub record WalkedTo (s : List ℕ) (count : ℕ) (c : Contents) : Type 0 where
+-- entries of kinds up to k are passed, and what is found so far are their contents
+pub record WalkedTo (s : List ℕ) (k count : ℕ) (c : Contents) : Type 0 where
   pub entries : List Entry
-  pub fine : accepted entries ≡ true
-  pub rest : Rest s count (c .count) (c .end) entries
+  pub passed : Passed s k count (c .count) (c .end) entries
   pub contents : ContentsOf entries c
 
-pub begun : (s : List ℕ) (count : ℕ) → WalkedTo s count (record { count = 0; standing = Unweighed; sheet = InForce·Nothing; last = 6; end = 6 })
-unfolding accepted acceptedAfter balanceOf lastWeighing sheetOf withoutLast joined
-begun s count =
-    record { entries = []; fine = refl; rest = none-read s count; contents = record { count = refl; stands = refl; sound = tt; sheet = refl; last = refl; end = refl } }
+pub begun : (s : List ℕ) (k count : ℕ) → WalkedTo s k count (record { count = 0; standing = Unweighed; sheet = InForce·Nothing; last = 6; end = 6 })
+unfolding balanceOf lastWeighing sheetOf withoutLast joined
+begun s k count =
+    record { entries = []; passed = none-passed s k count; contents = record { count = refl; stands = refl; sound = tt; sheet = refl; last = refl; end = refl } }
 
 -- what is judged against the contents is judged against the list
 module _ (es : List Entry) (c : Contents) (x : ContentsOf es c) where
@@ -65,31 +63,26 @@ module _ (es : List Entry) (c : Contents) (x : ContentsOf es c) where
   pub number-in : (e : Entry) → numberAt (c .count) (plainly (c .standing)) e ≡ entryNumber es e
   number-in e = rw (x .count, x .stands) (sym (number-at es e))
 
-module _ (s : List ℕ) (count : ℕ) (c : Contents) (w : WalkedTo s count c) where
+module _ (s : List ℕ) (k count : ℕ) (c : Contents) (w : WalkedTo s k count c) where
   -- one entry more, which gets no number
-  module _ (b : areBytes s ≡ true) (h : c .count < count) (e : Entry) (place : ℕ) (g : walkAt s (c .end) ≡ Got e place) (n : numberAt (c .count) (plainly (c .standing)) e ≡ 0) where
-    pub gone-on : (t : Standing) (f : InForce) → plainly t ≡ after (plainly (c .standing)) e → Sound (c .count + 1) t → found f ≡ orElse (asSheet e) (found (c .sheet)) → WalkedTo s count (record { count = c .count + 1; standing = t; sheet = f; last = c .end; end = place })
-    gone-on t f p q k =
+  module _ (b : areBytes s ≡ true) (h : c .count < count) (e : Entry) (place : ℕ) (g : walkTo k s (c .end) ≡ Got e place) (n : numberAt (c .count) (plainly (c .standing)) e ≡ 0) where
+    pub gone-on : (t : Standing) (f : InForce) → plainly t ≡ after (plainly (c .standing)) e → Sound (c .count + 1) t → found f ≡ orElse (asSheet e) (found (c .sheet)) → WalkedTo s k count (record { count = c .count + 1; standing = t; sheet = f; last = c .end; end = place })
+    gone-on t f p q r =
         let es = w .entries in
         let x = w .contents in
         record {
           entries = es ++ e ∷ [];
-          fine = accepted-more es e (w .fine) (sym (number-in es c x e) ∙ n);
-          rest = one-read s count (c .count) (c .end) es (w .rest) b h e place g;
+          passed = one-passed s k count (c .count) (c .end) es (w .passed) b h e place g (sym (number-in es c x e) ∙ n);
           contents =
               record {
                 count = ap (λ (j : ℕ). j + 1) (x .count) ∙ sym (length-more es e);
                 stands = p ∙ ap (λ (o : Option Balance). after o e) (x .stands) ∙ sym (balance-more es e);
                 sound = rw (length-more es e, ← x .count) q;
-                sheet = k ∙ ap (orElse (asSheet e)) (x .sheet) ∙ sym (sheet-more es e);
+                sheet = r ∙ ap (orElse (asSheet e)) (x .sheet) ∙ sym (sheet-more es e);
                 last = x .end ∙ ap (λ (l : List Entry). 6 + length (bytesIn l)) (sym (without-more es e));
-                end = place-here s (c .end) b e place g ∙ omega (arith, x .end, length-in es e);
+                end = place-here s (c .end) k b e place g ∙ omega (arith, x .end, length-in es e);
               };
         }
-
-  -- the walk has passed all
-  pub ended : takeEntries count (drop 6 s) ≡ some (w .entries) → onlyAccepted (takeEntries count (drop 6 s)) ≡ some (w .entries)
-  ended h = rw (h, w .fine)
 
 -- the contents, counted by an equal number
 pub counted : {es : List Entry} {c : Contents} (n : ℕ) → c .count ≡ n → ContentsOf es c → ContentsOf es (record { count = n; standing = c .standing; sheet = c .sheet; last = c .last; end = c .end })

@@ -9,13 +9,16 @@ ghost use mathlib.Core.Path.{_≡_};
 ghost use Prim.Native.Nat.{_≤_};
 ghost use lib.ListN.{length, drop};
 ghost use Rattle.laws.specs.Written.{written};
-ghost use Rattle.paper.specs.File.{takeEntries};
-ghost use Rattle.paper.specs.Refusals.{onlyAccepted, fileOf};
+ghost use Rattle.paper.specs.File.{isVersion, lastKind};
+ghost use Rattle.paper.specs.Refusals.{fileOf};
 ghost use Rattle.stored.specs.Header.{headerOf, headed};
+ghost use Rattle.stored.specs.Kinds.{entriesTo, walkTo};
 ghost use Rattle.stored.specs.Found.{Finds};
 
-// The version of the file.
-const VERSION: u8 = 1;
+// The version that is written, and the first one, which is still read.
+pub const VERSION: u8 = 2;
+
+const FIRST: u8 = 1;
 
 // The length, the version and the count of entries come first.
 pub const HEADER: usize = 6;
@@ -46,6 +49,23 @@ pub fn put_header(out: &mut [u8], behind: usize, count: usize)
     words::put_number(out, 5, 1, count as u64);
 }
 
+// Whether there is such a version.
+fn is_version(v: u8) -> bool
+    ensures { λ b. ⌜ b ≡ isVersion v ⌝ }
+{
+    v == FIRST || v == VERSION
+}
+
+// The last kind of entry that a version has: paired weighings came with the second.
+pub fn last_kind(v: u8) -> u8
+    ensures { λ k. ⌜ k ≡ lastKind v ⌝ }
+{
+    if v == FIRST {
+        return 3;
+    }
+    4
+}
+
 // Whether the length and the version are right.
 pub fn is_headed(s: &[u8]) -> bool
     ensures { λ b. ⌜ b ≡ headed (now (s .entry)) ⌝ }
@@ -54,12 +74,26 @@ pub fn is_headed(s: &[u8]) -> bool
         return false;
     }
     let behind = s.len() - 4;
-    words::number_at(s, 0, 4) as usize == behind && s[4] == VERSION
+    words::number_at(s, 0, 4) as usize == behind && is_version(s[4])
 }
 
-// What stands behind the header, judged entry by entry: just as many entries as the count says, and no byte over.
-fn survey_entries(s: &[u8], count: usize) -> Stored
-    ensures { λ r. ⌜ Finds (onlyAccepted (takeEntries count (drop 6 (now (s .entry))))) r ⌝ }
+// The entry at a place, where it is of a kind up to `kinds`.
+pub fn entry_to(s: &[u8], at: usize, kinds: u8) -> Walk
+    ensures { λ w. ⌜ w ≡ walkTo kinds (now (s .entry)) at ⌝ }
+{
+    let Walk::Got(entry, place) = reader::entry_at(s, at) else {
+        return Walk::Nothing;
+    };
+    if kinds < layout::kind_of(entry) {
+        return Walk::Nothing;
+    }
+    Walk::Got(entry, place)
+}
+
+// What stands behind the header, judged entry by entry: just as many entries as the count says, none of a kind above `kinds`,
+// and no byte over.
+fn survey_entries(s: &[u8], kinds: u8, count: usize) -> Stored
+    ensures { λ r. ⌜ Finds (entriesTo kinds count (drop 6 (now (s .entry)))) r ⌝ }
 {
     let mut standing = Standing::Unweighed;
     let mut sheet = InForce::Nothing;
@@ -67,7 +101,7 @@ fn survey_entries(s: &[u8], count: usize) -> Stored
     let mut at = HEADER;
     let mut i = 0;
     while i < count {
-        let Walk::Got(entry, place) = reader::entry_at(s, at) else {
+        let Walk::Got(entry, place) = entry_to(s, at, kinds) else {
             return Stored::Nothing;
         };
         let Judged::Accepted(next) = judge::judge(i, standing, entry) else {
@@ -81,6 +115,7 @@ fn survey_entries(s: &[u8], count: usize) -> Stored
             Entry::Weighing(_) => {}
             Entry::Sheet(t) => sheet = InForce::Found(t),
             Entry::Change(_) => {}
+            Entry::Paired(_) => {}
         }
     }
     if at < s.len() {
@@ -106,5 +141,5 @@ pub fn survey(s: &[u8]) -> Stored
     if CAPACITY < count {
         return Stored::Nothing;
     }
-    survey_entries(s, count)
+    survey_entries(s, last_kind(s[4]), count)
 }

@@ -1,6 +1,6 @@
 -- `stored::is_headed` meets its contract: its tests are those of the header, in its order. Assumes nothing.
 use borrow.Author.Needs.{needs}
-use mathlib.Core.Path.{sym}
+use mathlib.Core.Path.{sym, _∙_}
 use Rattle.stored.proofs.Headers.{too-few, by-version, by-length}
 use Rattle.stored.proofs.is_headed.Statement.{statement}
 use Rattle.stored.proofs.is_headed.Tie as tie
@@ -17,14 +17,18 @@ number-at-requires c κs = search needs
 cast-if2 : tie.Need-cast-if2
 cast-if2 c = search needs
 
-shared-slice-read-result : tie.Need-shared-slice-read-result
-shared-slice-read-result c = search needs
+shared-slice-read-is-version : tie.Need-shared-slice-read-is-version
+shared-slice-read-is-version c = search needs
+
+is-version-requires : tie.Need-is-version-requires
+is-version-requires c κs = search needs
 
 returns-2 : tie.Need-returns-2
 returns-2 c =
-    let t = c .before in
+    let t = c .before .before in
     let n = t .before in
-    by-version (n .before .before .before .args .s .now) (n .number-at .result) (n .number-at .ensures) (n .before .if1 .left) (t .if2 .taken)
+    c .is-version .ensures
+    ∙ by-version (n .before .before .before .args .s .now) (n .number-at .result) (n .number-at .ensures) (n .before .if1 .left) (t .if2 .taken)
 
 returns-3 : tie.Need-returns-3
 returns-3 c =
@@ -39,6 +43,7 @@ is-headed-spec =
     sub-behind
     number-at-requires
     cast-if2
-    shared-slice-read-result
+    shared-slice-read-is-version
+    is-version-requires
     returns-2
     returns-3)

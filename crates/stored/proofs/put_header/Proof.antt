@@ -4,8 +4,8 @@ use mathlib.Core.List.{List}
 use Prim.Native.Nat.{ℕ}
 use native.Mathlib.Omega.{arith}
 use borrow.Author.Needs.{needs}
-use lib.ListN.{length, set, length-set}
-use Rattle.laws.specs.Written.{written, length-written}
+use lib.ListN.{length, set}
+use Rattle.laws.specs.Written.{written, length-written, set-within}
 use Rattle.paper.specs.File.{bytesOf}
 use Rattle.stored.specs.Header.{headerOf}
 use Rattle.stored.proofs.Parts.{length-header, length-sized, header-put}
@@ -23,7 +23,7 @@ put-number-requires-2 c κs =
     let p = c .before .before .before in
     let b = p .before .before .before in
     let e = ap length (p .put-number .ensures) ∙ length-sized (b .args .out .now) (b .args .behind) (b .args .count) (b .pre) in
-    omega (arith, e, length-set (p .put-number .last .0) 4 1)
+    set-within (p .put-number .last .0) 4 _ 6 (omega (arith, e))
 
 -- what is written in all
 put : (c : tie.After-put-number2) → c .put-number2 .last .0 ≡ written (c .before .before .before .before .before .before .before .args .out .now) 0 (headerOf (c .before .before .before .before .before .before .before .args .behind) (c .before .before .before .before .before .before .before .args .count))
@@ -31,7 +31,7 @@ put c =
     let p = c .before .before .before .before in
     let b = p .before .before .before in
     c .put-number2 .ensures
-    ∙ ap (λ (t : List ℕ). written (set t 4 1) 5 (bytesOf 1 (b .args .count))) (p .put-number .ensures)
+    ∙ ap (λ (t : List ℕ). written (set t 4 2) 5 (bytesOf 1 (b .args .count))) (p .put-number .ensures)
     ∙ header-put (b .args .out .now) (b .args .behind) (b .args .count) (b .pre)
 
 same-length : tie.Need-same-length

@@ -39,14 +39,22 @@ returns-2 c =
     let b = e .before .before in
     too-many (b .before .args .s .now) (bytes b) (right e) (c .if2 .taken)
 
+shared-slice-read-last-kind : tie.Need-shared-slice-read-last-kind
+shared-slice-read-last-kind c =
+    let e = c .before .before .before in omega (arith, enough-bytes (e .before .before .before .args .s .now) (right e))
+
+last-kind-requires : tie.Need-last-kind-requires
+last-kind-requires c κs = search needs
+
 survey-entries-requires : tie.Need-survey-entries-requires
 survey-entries-requires c κs = search needs
 
 returns-3 : tie.Need-returns-3
 returns-3 c =
-    let e = c .before .before .before in
+    let k = c .before in
+    let e = k .before .before .before .before in
     let b = e .before .before in
-    rw (good-header (b .before .args .s .now) (bytes b) (right e)) (c .survey-entries .ensures)
+    rw (good-header (b .before .args .s .now) (bytes b) (right e), ← k .last-kind .ensures) (c .survey-entries .ensures)
 
 pub survey-spec : {M : Type 1} → statement M
 survey-spec =
@@ -57,5 +65,7 @@ survey-spec =
     shared-slice-read-count
     cast-count
     returns-2
+    shared-slice-read-last-kind
+    last-kind-requires
     survey-entries-requires
     returns-3)

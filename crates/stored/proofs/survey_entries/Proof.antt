@@ -10,33 +10,32 @@ use lib.Pow.{areBytes}
 use Rattle.paper.specs.declared.Sheet.{Sheet}
 use Rattle.paper.specs.declared.Entry.{Entry}
 use Rattle.paper.specs.Record.{asSheet}
-use Rattle.paper.specs.Refusals.{onlyAccepted}
 use Rattle.format.specs.Numbers.{bytes-at}
 use Rattle.sheet.specs.declared.InForce.{InForce}
 use Rattle.sheet.specs.declared.InForce.the-variants.{Found}
 use Rattle.sheet.specs.InForce.{found as in-force}
 use Rattle.entries.specs.declared.Walk.the-variants.{Got}
-use Rattle.entries.specs.Walking.{walkAt}
-use Rattle.stored.proofs.Reading.{no-entry, refused-entry, left-over, all-read}
-use Rattle.stored.proofs.Walks.{WalkedTo, begun, no-sheet, this-sheet, sound-in, number-in, gone-on, ended, counted}
+use Rattle.stored.specs.Kinds.{walkTo}
+use Rattle.stored.proofs.Reading.{no-entry, refused-entry, left-over, all-passed}
+use Rattle.stored.proofs.Walks.{WalkedTo, begun, no-sheet, this-sheet, sound-in, number-in, gone-on, counted}
 use Rattle.stored.proofs.survey_entries.Statement.{statement}
 use Rattle.stored.proofs.survey_entries.Tie as tie
 
 abbrev Inv-loop : tie.InvT-loop
-Inv-loop s count standing₀ sheet₀ last₀ at₀ i₀ standing sheet last at i = (i ≤ count) × WalkedTo s count (record { count = i; standing = standing; sheet = sheet; last = last; end = at })
+Inv-loop s kinds count standing₀ sheet₀ last₀ at₀ i₀ standing sheet last at i = (i ≤ count) × WalkedTo s kinds count (record { count = i; standing = standing; sheet = sheet; last = last; end = at })
 
 abbrev μ-loop : tie.MeasureT-loop
-μ-loop s count standing₀ sheet₀ last₀ at₀ i₀ standing sheet last at i = count - i
+μ-loop s kinds count standing₀ sheet₀ last₀ at₀ i₀ standing sheet last at i = count - i
 
 -- the slice is one of bytes
 bytes : (c : tie.After-shared-slice-known Inv-loop μ-loop) → areBytes (c .before .args .s .now) ≡ true
 bytes c = bytes-at (c .before .args .s .now) (λ i h. c .shared-slice-known .given i .fits)
 
 loop-holds : tie.Need-loop-holds Inv-loop μ-loop
-loop-holds c = (omega arith, begun (c .before .args .s .now) (c .before .args .count))
+loop-holds c = (omega arith, begun (c .before .args .s .now) (c .before .args .kinds) (c .before .args .count))
 
-entry-at-requires : tie.Need-entry-at-requires Inv-loop μ-loop
-entry-at-requires c κs = search needs
+entry-to-requires : tie.Need-entry-to-requires Inv-loop μ-loop
+entry-to-requires c κs = search needs
 
 enum-known-entry : tie.Need-enum-known-entry Inv-loop μ-loop
 enum-known-entry c = search needs
@@ -50,7 +49,7 @@ returns c =
     let m = n .before .before in
     let a = m .before .before .args in
     let l = m .loop in
-    ap onlyAccepted (no-entry (a .s .now) (a .count) (l .i) (l .at) (l .inv .1 .entries) (l .inv .1 .rest) (n .before .loop-test .taken) (sym (n .entry-at .ensures) ∙ c .enum-told .given .1))
+    no-entry (a .s .now) (a .kinds) (a .count) (l .i) (l .at) (l .inv .1 .entries) (l .inv .1 .passed) (bytes (m .before)) (n .before .loop-test .taken) (sym (n .entry-to .ensures) ∙ c .enum-told .given .1)
 
 judge-requires : tie.Need-judge-requires Inv-loop μ-loop
 judge-requires c κs =
@@ -62,8 +61,8 @@ module _ (c : tie.After-judge Inv-loop μ-loop) where
   abbrev entry : Entry
   entry = c .before .before .entry .given .0 .0
 
-  found : walkAt (c .before .before .before .before .before .before .before .before .args .s .now) (c .before .before .before .before .before .before .loop .at) ≡ Got entry (c .before .before .entry .given .0 .1 .0)
-  found = sym (c .before .before .before .before .entry-at .ensures) ∙ c .before .before .entry .given .1
+  found : walkTo (c .before .before .before .before .before .before .before .before .args .kinds) (c .before .before .before .before .before .before .before .before .args .s .now) (c .before .before .before .before .before .before .loop .at) ≡ Got entry (c .before .before .entry .given .0 .1 .0)
+  found = sym (c .before .before .before .before .entry-to .ensures) ∙ c .before .before .entry .given .1
 
 enum-known-next : tie.Need-enum-known-next Inv-loop μ-loop
 enum-known-next c = search needs
@@ -81,7 +80,7 @@ returns-2 c =
     let a = b .before .args in
     let says = rw (c .enum-told2 .given .1) at (j .judge .ensures) in
     let number = rw (number-in (l .inv .1 .entries) _ (l .inv .1 .contents) (entry j)) at (says .1) in
-    refused-entry (a .s .now) (a .count) (l .i) (l .at) (l .inv .1 .entries) (l .inv .1 .rest) (bytes b) (n .before .loop-test .taken) (entry j) _ (found j) number
+    refused-entry (a .s .now) (a .kinds) (a .count) (l .i) (l .at) (l .inv .1 .entries) (l .inv .1 .passed) (bytes b) (n .before .loop-test .taken) (entry j) _ (found j) number
 
 add-i : tie.Need-add-i Inv-loop μ-loop
 add-i c = search needs
@@ -102,14 +101,14 @@ module _ (k : tie.After-next Inv-loop μ-loop) where
 
   abbrev With : InForce → Type 0
   With f =
-      WalkedTo (loop .before .before .args .s .now) (loop .before .before .args .count) (record { count = loop .loop .i + 1; standing = k .next .given .0 .0; sheet = f; last = loop .loop .at; end = judged .before .before .entry .given .0 .1 .0 })
+      WalkedTo (loop .before .before .args .s .now) (loop .before .before .args .kinds) (loop .before .before .args .count) (record { count = loop .loop .i + 1; standing = k .next .given .0 .0; sheet = f; last = loop .loop .at; end = judged .before .before .entry .given .0 .1 .0 })
 
   more : (f : InForce) → in-force f ≡ orElse (asSheet (entry judged)) (in-force (loop .loop .sheet)) → With f
   more f e =
       let b = loop .before in
       let a = b .before .args in
       let says = rw (k .next .given .1) at (k .before .before .judge .ensures) in
-      gone-on (a .s .now) (a .count) _ (loop .loop .inv .1) (bytes b) (judged .before .before .before .before .before .loop-test .taken) (entry judged) _ (found judged) (says .0) _ f (says .1) (says .2) e
+      gone-on (a .s .now) (a .kinds) (a .count) _ (loop .loop .inv .1) (bytes b) (judged .before .before .before .before .before .loop-test .taken) (entry judged) _ (found judged) (says .0) _ f (says .1) (says .2) e
 
   no-sheet-more : asSheet (entry judged) ≡ none → With (loop .loop .sheet)
   no-sheet-more e = more (loop .loop .sheet) (no-sheet (entry judged) (loop .loop .sheet) e)
@@ -138,12 +137,21 @@ loop-less-3 c = search needs
 loop-again-3 : tie.Need-loop-again-3 Inv-loop μ-loop
 loop-again-3 c = (omega arith, no-sheet-more (c .before .before .before) (ap asSheet (c .enum-told4 .given .1)))
 
+enum-told-5 : tie.Need-enum-told-5 Inv-loop μ-loop
+enum-told-5 c = search needs
+
+loop-less-4 : tie.Need-loop-less-4 Inv-loop μ-loop
+loop-less-4 c = search needs
+
+loop-again-4 : tie.Need-loop-again-4 Inv-loop μ-loop
+loop-again-4 c = (omega arith, no-sheet-more (c .before .before .before) (ap asSheet (c .enum-told5 .given .1)))
+
 returns-3 : tie.Need-returns-3 Inv-loop μ-loop
 returns-3 c =
     let m = c .before .before in
     let a = m .before .before .args in
     let l = m .loop in
-    ap onlyAccepted (left-over (a .s .now) (a .count) (l .i) (l .at) (l .inv .1 .entries) (l .inv .1 .rest) (omega arith) (c .if1 .taken))
+    left-over (a .s .now) (a .kinds) (a .count) (l .i) (l .at) (l .inv .1 .entries) (l .inv .1 .passed) (omega arith) (c .if1 .taken)
 
 returns-4 : tie.Need-returns-4 Inv-loop μ-loop
 returns-4 c =
@@ -152,8 +160,8 @@ returns-4 c =
     let l = m .loop in
     let w = l .inv .1 in
     let e : l .i ≡ a .count = omega arith in
-    let all = all-read (a .s .now) (a .count) (l .i) (l .at) (w .entries) (w .rest) e (c .if1 .left) in
-    (w .entries, ended (a .s .now) (a .count) _ w all, counted _ e (w .contents))
+    let all = all-passed (a .s .now) (a .kinds) (a .count) (l .i) (l .at) (w .entries) (w .passed) e (c .if1 .left) in
+    (w .entries, all, counted _ e (w .contents))
 
 pub survey-entries-spec : {M : Type 1} → statement M
 survey-entries-spec =
@@ -162,7 +170,7 @@ survey-entries-spec =
     Inv-loop
     μ-loop
     loop-holds
-    entry-at-requires
+    entry-to-requires
     enum-known-entry
     enum-told
     returns
@@ -180,5 +188,8 @@ survey-entries-spec =
     enum-told-4
     loop-less-3
     loop-again-3
+    enum-told-5
+    loop-less-4
+    loop-again-4
     returns-3
     returns-4)
