@@ -1,46 +1,43 @@
--- Reading: the entries read so far are accepted, they are in the record, and what stands is theirs; one entry more, or what
--- shows that there is no file; and what the call answers. Assumes nothing.
+-- Reading: the entries passed so far are in the record, and what stands is theirs; one entry more, or one that shows that there
+-- is no file; and what the call answers. Assumes nothing.
 use mathlib.Core.Path.{_≡_, refl, sym, ap, _∙_}
 use mathlib.Core.Bool.{true}
 use mathlib.Core.List.{List, [], _∷_, _++_}
 use mathlib.Core.Option.{Option, none, some}
-use Prim.Native.Nat.{ℕ, _+_, _≤_, _<_}
-use lib.ListN.{length, drop, set}
+use Prim.Native.Nat.{ℕ, _+_, _<_}
+use lib.ListN.{drop, set}
 use lib.Pow.{areBytes}
 use Rattle.paper.specs.declared.Entry.{Entry}
-use Rattle.paper.specs.File.{takeEntries}
-use Rattle.paper.specs.Refusals.{entryNumber, acceptedAfter, accepted, onlyAccepted, fileOf, _when_, isNone, firstNumber, readingNumber}
+use Rattle.paper.specs.Refusals.{entryNumber, fileOf, _when_, isNone, firstNumber, readingNumber}
 use Rattle.paper.specs.Journal.{read, callNumber, acceptedCall, entriesOr}
 use Rattle.judge.specs.declared.Standing.{Standing}
 use Rattle.judge.specs.declared.Standing.the-variants.{Unweighed}
 use Rattle.judge.specs.Standing.{plainly, Sound, numberAt, after}
-use Rattle.judge.proofs.Accepted.{accepted-more}
 use Rattle.record.specs.declared.Record.{Record}
 use Rattle.record.specs.declared.Kept.{Kept}
 use Rattle.record.specs.declared.Replayed.{Replayed}
 use Rattle.record.specs.Held.{slotOf, recordOf, heldBy, keptOr, answered, ReplayedAs}
 use Rattle.record.proofs.Turns.{kept-added}
 use Rattle.record.proofs.Replays as replays
-use Rattle.entries.specs.declared.Walk.the-variants.{Got, Nothing}
-use Rattle.entries.specs.Walking.{walkAt}
-use Rattle.stored.proofs.Reading.{Rest, none-read, one-read, no-entry, refused-entry, left-over, all-read}
+use Rattle.entries.specs.declared.Walk.the-variants.{Got}
+use Rattle.stored.specs.Kinds.{entriesTo, walkTo}
+use Rattle.stored.proofs.Reading.{Passed, none-passed, refused-entry, one-passed}
 
 -- ---- a record read back
 
--- the first i entries are in it, and the walk stands at a place
-pub record ReadTo (s : List ℕ) (count i at : ℕ) (standing : Standing) (log : Record) : Type 0 where
+-- the entries that the walk has passed, of kinds up to k, are in it
+pub record ReadTo (s : List ℕ) (k count i at : ℕ) (standing : Standing) (log : Record) : Type 0 where
   pub entries : List Entry
-  pub fine : accepted entries ≡ true
+  pub passed : Passed s k count i at entries
   pub held : ReplayedAs entries (record { log = log; standing = standing })
   pub many : log .count ≡ i
-  pub rest : Rest s count i at entries
 
-pub begun : (s : List ℕ) (count : ℕ) (log : Record) → log ≡ recordOf [] → ReadTo s count 0 6 Unweighed log
-unfolding accepted acceptedAfter recordOf
-begun s count log e =
-    record { entries = []; fine = refl; held = replays.begun log e; many = ap (λ (l : Record). l .count) e; rest = none-read s count }
+pub begun : (s : List ℕ) (k count : ℕ) (log : Record) → log ≡ recordOf [] → ReadTo s k count 0 6 Unweighed log
+unfolding recordOf
+begun s k count log e =
+    record { entries = []; passed = none-passed s k count; held = replays.begun log e; many = ap (λ (l : Record). l .count) e }
 
-module _ (s : List ℕ) (count i at : ℕ) (standing : Standing) (log : Record) (x : ReadTo s count i at standing log) where
+module _ (s : List ℕ) (k count i at : ℕ) (standing : Standing) (log : Record) (x : ReadTo s k count i at standing log) where
   abbrev now : Replayed
   now = record { log = log; standing = standing }
 
@@ -51,34 +48,23 @@ module _ (s : List ℕ) (count i at : ℕ) (standing : Standing) (log : Record) 
   number-in : (e : Entry) → numberAt i (plainly standing) e ≡ entryNumber (x .entries) e
   number-in e = rw (x .many) at (replays.number-is (x .entries) now (x .held) e)
 
-  -- there are more, and no entry, or one that its call refuses
-  pub none-there : i < count → walkAt s at ≡ Nothing → onlyAccepted (takeEntries count (drop 6 s)) ≡ none
-  none-there h w = ap onlyAccepted (no-entry s count i at (x .entries) (x .rest) h w)
+  module _ (b : areBytes s ≡ true) (h : i < count) (e : Entry) (place : ℕ) (w : walkTo k s at ≡ Got e place) where
+    -- the next entry is one that its call refuses
+    pub refused : 0 < numberAt i (plainly standing) e → entriesTo k count (drop 6 s) ≡ none
+    refused n = refused-entry s k count i at (x .entries) (x .passed) b h e place w (rw (number-in e) at n)
 
-  module _ (b : areBytes s ≡ true) (h : i < count) (e : Entry) (place : ℕ) (w : walkAt s at ≡ Got e place) where
-    pub refused : 0 < numberAt i (plainly standing) e → onlyAccepted (takeEntries count (drop 6 s)) ≡ none
-    refused n = refused-entry s count i at (x .entries) (x .rest) b h e place w (rw (number-in e) at n)
-
-    -- or one more, in the next slot
-    pub one-more : numberAt i (plainly standing) e ≡ 0 → (next : Standing) → plainly next ≡ after (plainly standing) e → Sound (i + 1) next → ReadTo s count (i + 1) place next (record { slots = set (log .slots) i (slotOf e); count = i + 1 })
+    -- or it is in the next slot
+    pub one-more : numberAt i (plainly standing) e ≡ 0 → (next : Standing) → plainly next ≡ after (plainly standing) e → Sound (i + 1) next → ReadTo s k count (i + 1) place next (record { slots = set (log .slots) i (slotOf e); count = i + 1 })
     one-more n next p q =
         let es = x .entries in
         let no-number = sym (number-in e) ∙ n in
         let more : Replayed = record { log = record { slots = set (log .slots) i (slotOf e); count = i + 1 }; standing = next } in
         record {
           entries = es ++ e ∷ [];
-          fine = accepted-more es e (x .fine) no-number;
+          passed = one-passed s k count i at es (x .passed) b h e place w no-number;
           held = rw (kept-added es e no-number) at (replays.gone-on es now (x .held) e (rw (x .many) n) more (rw (x .many)) p (rw (x .many) q));
           many = refl;
-          rest = one-read s count i at es (x .rest) b h e place w;
         }
-
-  -- all are read: bytes may be left over
-  pub more-bytes : i ≡ count → at < length s → onlyAccepted (takeEntries count (drop 6 s)) ≡ none
-  more-bytes e h = ap onlyAccepted (left-over s count i at (x .entries) (x .rest) e h)
-
-  pub whole : i ≡ count → length s ≤ at → onlyAccepted (takeEntries count (drop 6 s)) ≡ some (x .entries)
-  whole e h = rw (all-read s count i at (x .entries) (x .rest) e h, x .fine)
 
 -- ---- what reading answers
 

@@ -85,13 +85,14 @@ pub fn read(r: Record, s: &[u8]) -> Kept
     if !stored::is_headed(s) {
         return Kept { number: 12, log: r };
     }
+    let kinds = stored::last_kind(s[4]);
     let count = s[5] as usize;
     let mut log = Record::fresh();
     let mut standing = Standing::Unweighed;
     let mut at = HEADER;
     let mut i = 0;
     while i < count {
-        let Walk::Got(entry, place) = reader::entry_at(s, at) else {
+        let Walk::Got(entry, place) = stored::entry_to(s, at, kinds) else {
             return Kept { number: 12, log: r };
         };
         let Judged::Accepted(next) = judge::judge(i, standing, entry) else {
