@@ -1,20 +1,19 @@
--- A buffer that holds a list: the list is one that calls give, and the buffer begins with its file. Assumes nothing.
+-- A buffer that holds a list: the list is one that calls give, and the buffer begins with its file in some version. Assumes nothing.
 use mathlib.Core.Path.{_≡_, sym, ap, _∙_}
 use mathlib.Core.Bool.{true}
-use mathlib.Core.List.{List, _++_, append-assoc}
+use mathlib.Core.List.{List, _++_}
 use mathlib.Core.Option.{some}
-use Prim.Native.Nat.{ℕ, _+_, _-_, _≤_}
+use Prim.Native.Nat.{ℕ, _+_, _≤_}
 use native.Mathlib.Decide.{decLe}
 use native.Mathlib.Omega.{arith}
 use lib.ListN.{length, take, drop, take-append-drop}
-use lib.Seq.{take-all, length-take-le, drop-at}
+use lib.Seq.{take-all, length-take-le}
 use Rattle.paper.specs.declared.Entry.{Entry}
-use Rattle.paper.specs.File.{numberOf, fileBytes}
+use Rattle.paper.specs.File.{numberOf, fileAs, version, fileBytes}
 use Rattle.paper.specs.Refusals.{accepted}
-use Rattle.format.specs.Files.{file-accepted}
-use Rattle.stored.specs.Header.{headerOf}
+use Rattle.format.specs.Files.{same-length, file-accepted}
 use Rattle.stored.specs.Found.{bytesIn}
-use Rattle.stored.proofs.Parts.{length-header, file-parts}
+use Rattle.stored.proofs.Parts.{entries-behind}
 use Rattle.front.specs.Front.{fileIn, heldIn}
 
 -- the first of a list, as many as were taken
@@ -46,34 +45,28 @@ module _ (s : List ℕ) (es : List Entry) (h : heldIn s ≡ some es) where
   unfolding heldIn
   held-accepted = file-accepted (fileIn s) es h .0
 
-  file-there : fileIn s ≡ fileBytes es
+  -- the front is its file, in some version
+  file-there : (v : ℕ) × (fileIn s ≡ fileAs v es)
   unfolding heldIn
-  file-there = file-accepted (fileIn s) es h .1
+  file-there = let f = file-accepted (fileIn s) es h .1 in (f .0, f .2)
 
-  pub held-file : take (length (fileBytes es)) s ≡ fileBytes es
+  size-there : length (fileIn s) ≡ length (fileBytes es)
+  size-there = ap length (file-there .1) ∙ same-length (file-there .0) version es
+
+  pub held-file : (v : ℕ) × (take (length (fileBytes es)) s ≡ fileAs v es)
   unfolding fileIn
-  held-file =
-      ap (λ (xs : List ℕ). take (length xs) s) (sym file-there)
-      ∙ taken-again (4 + numberOf (take 4 s)) s
-      ∙ file-there
+  held-file = (
+    file-there .0,
+    ap (λ (n : ℕ). take n s) (sym size-there) ∙ taken-again (4 + numberOf (take 4 s)) s ∙ file-there .1,
+  )
 
   pub held-room : length (fileBytes es) ≤ length s
   unfolding fileIn
-  held-room = rw (← file-there) (taken-most (4 + numberOf (take 4 s)) s)
+  held-room = rw (← size-there) (taken-most (4 + numberOf (take 4 s)) s)
 
--- ---- a buffer that begins with a file
-
-module _ (s : List ℕ) (es : List Entry) (h : take (length (fileBytes es)) s ≡ fileBytes es) where
-  -- its parts
-  pub in-parts : s ≡ headerOf (length (fileBytes es) - 4) (length es) ++ (bytesIn es ++ drop (length (fileBytes es)) s)
-  in-parts =
-      let n = length (fileBytes es) in
-      sym (take-append-drop n s)
-      ∙ ap (λ (xs : List ℕ). xs ++ drop n s) (h ∙ file-parts es)
-      ∙ append-assoc (headerOf (n - 4) (length es)) (bytesIn es) (drop n s)
-
-  pub behind-header : drop 6 s ≡ bytesIn es ++ drop (length (fileBytes es)) s
-  behind-header =
-      let n = length (fileBytes es) in
-      ap (drop 6) in-parts
-      ∙ drop-at (headerOf (n - 4) (length es)) (bytesIn es ++ drop n s) 6 (length-header (n - 4) (length es))
+-- a buffer that begins with a file, in whatever version, has the entries behind the header
+pub behind-header : (s : List ℕ) (v : ℕ) (es : List Entry) → take (length (fileBytes es)) s ≡ fileAs v es → drop 6 s ≡ bytesIn es ++ drop (length (fileBytes es)) s
+behind-header s v es h =
+    let n = length (fileBytes es) in
+    ap (drop 6) (sym (take-append-drop n s) ∙ ap (λ (xs : List ℕ). xs ++ drop n s) h)
+    ∙ entries-behind v es (drop n s)
