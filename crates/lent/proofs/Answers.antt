@@ -4,7 +4,7 @@ use mathlib.Core.List.{List, [], _∷_, _++_}
 use mathlib.Core.Option.{none, some}
 use Prim.Native.Nat.{ℕ, _+_, _-_, _≤_, _<_}
 use native.Mathlib.Omega.{arith}
-use lib.ListN.{length, take, drop}
+use lib.ListN.{length, take, drop, set}
 use lib.Seq.{take-all, length-take-le}
 use borrow.Author.Tests.{eq-eqb, ne-eqb}
 use Rattle.laws.specs.Lists.{length-more}
@@ -13,12 +13,12 @@ use Rattle.paper.specs.declared.Entry.{Entry}
 use Rattle.paper.specs.declared.Entry.the-variants as entry
 use Rattle.paper.specs.declared.Written.{Written}
 use Rattle.paper.specs.Rows.{joined}
-use Rattle.paper.specs.File.{entryBytes, fileBytes}
+use Rattle.paper.specs.File.{bytesOf, entryBytes, bodyAs, fileAs, version, fileBytes}
 use Rattle.paper.specs.Refusals.{entryNumber, fileOf, firstNumber, isNone, readingNumber}
 use Rattle.paper.specs.Answers.{over}
 use Rattle.paper.specs.Journal.{Call, undo, read, callOf, callNumber, acceptedCall, withoutLast, entriesOr}
 use Rattle.paper.proofs.Lists.{last-apart}
-use Rattle.format.specs.Files.{file-accepted}
+use Rattle.format.specs.Files.{same-length, file-accepted}
 use Rattle.record.proofs.Calls.{undo-bare, undo-some}
 use Rattle.stored.specs.Header.{headerOf}
 use Rattle.stored.specs.Found.{bytesIn}
@@ -59,11 +59,11 @@ fresh-put s last h l =
 
 -- ---- one entry more, as the code has it: there is room for it or not
 
-module _ (s : List ℕ) (es : List Entry) (e : Entry) (end : ℕ) (h : end ≤ length s) (f : take end s ≡ fileBytes es) where
+module _ (s : List ℕ) (v : ℕ) (es : List Entry) (e : Entry) (end : ℕ) (h : end ≤ length s) (f : take end s ≡ fileAs v es) where
   ends : end ≡ length (fileBytes es)
-  ends = sym (length-take-le end s h) ∙ ap length f
+  ends = sym (length-take-le end s h) ∙ ap length f ∙ same-length v version es
 
-  there : take (length (fileBytes es)) s ≡ fileBytes es
+  there : take (length (fileBytes es)) s ≡ fileAs v es
   there = ap (λ (k : ℕ). take k s) (sym ends) ∙ f
 
   pub entry-short : length s - end < length (entryBytes e) → (11, s) ≡ lentFile (es ++ e ∷ []) s
@@ -75,7 +75,7 @@ module _ (s : List ℕ) (es : List Entry) (e : Entry) (end : ℕ) (h : end ≤ l
       let put = m ∙ ap (λ (j : ℕ). written s j (entryBytes e)) ends in
       let size : behind - 4 ≡ length (fileBytes fs) - 4 = omega (arith, ends, file-more es e) in
       let many : count + 1 ≡ length fs = omega (arith, length-more es e) in
-      ap (λ (xs : List ℕ). (0, xs)) (put-again fs s t last (behind - 4) (count + 1) size many (ap (drop 6) put ∙ entry-put s es there e) l)
+      ap (λ (xs : List ℕ). (0, xs)) (put-again fs s t last (behind - 4) (count + 1) size many (ap (drop 6) put ∙ entry-put s v es there e) l)
       ∙ sym (file-put fs s (omega (arith, ends, file-more es e)))
 
 -- ---- a call
@@ -108,12 +108,14 @@ unfolding callNumber callOf entryNumber
 number-of es (entry.Weighing w) = refl
 number-of es (entry.Sheet t) = refl
 number-of es (entry.Change x) = refl
+number-of es (entry.Paired x) = refl
 
 pub list-of : (es : List Entry) (e : Entry) → acceptedCall es (callOf e) ≡ es ++ e ∷ []
 unfolding acceptedCall callOf
 list-of es (entry.Weighing w) = refl
 list-of es (entry.Sheet t) = refl
 list-of es (entry.Change x) = refl
+list-of es (entry.Paired x) = refl
 
 -- taking back: nothing to take back, or the header of one entry less
 module _ (s : List ℕ) (es : List Entry) (h : heldIn s ≡ some es) where
@@ -124,17 +126,31 @@ module _ (s : List ℕ) (es : List Entry) (h : heldIn s ≡ some es) where
   pub undone : (last : List ℕ) (n count : ℕ) → 0 < length es → n ≡ 6 + length (bytesIn (withoutLast es)) → count ≡ length es → last ≡ written s 0 (headerOf (n - 4) (count - 1)) → (0, last) ≡ lentCall undo s
   unfolding callNumber acceptedCall
   undone last n count k e c l =
+      let file = held-file s es h in
       let fs = withoutLast es in
       let r = last-apart es k in
       let many : length es ≡ length fs + 1 = ap length (r .1) ∙ length-more fs (r .0) in
       let less : length (fileBytes fs) ≤ length (fileBytes es) = omega (arith, ap (λ (l : List Entry). length (fileBytes l)) (r .1), file-more fs (r .0)) in
       let size : n - 4 ≡ length (fileBytes fs) - 4 = omega (arith, file-size fs) in
       let one : count - 1 ≡ length fs = omega arith in
-      ap (λ (xs : List ℕ). (0, xs)) (put-again fs s s last (n - 4) (count - 1) size one (entry-left s es (held-file s es h) k) l)
+      ap (λ (xs : List ℕ). (0, xs)) (put-again fs s s last (n - 4) (count - 1) size one (entry-left s (file .0) es (file .1) k) l)
       ∙ sym (file-put fs s (omega (arith, held-room s es h)))
       ∙ sym (accepted-held undo s es h (undo-some es (λ z. omega arith)))
 
 -- ---- reading back
+
+-- a file that is copied and gets the version that is written is the one that writing gives
+renewed : (v : ℕ) (es : List Entry) (r : List ℕ) → set (fileAs v es ++ r) 4 version ≡ fileBytes es ++ r
+unfolding fileAs bodyAs bytesOf
+renewed v es r = refl
+
+copied : (xs s t : List ℕ) (v : ℕ) (es : List Entry) → xs ≡ fileAs v es → t ≡ take (length xs) xs ++ drop (length xs) s → set t 4 version ≡ over (fileBytes es) s
+unfolding over
+copied xs s t v es f l =
+    let n = length (fileBytes es) in
+    let whole : t ≡ fileAs v es ++ drop n s =
+    l ∙ ap (λ (ys : List ℕ). ys ++ drop (length xs) s) (take-all (length xs) xs (omega arith)) ∙ rw (f, same-length v version es) in
+    ap (λ (ys : List ℕ). set ys 4 version) whole ∙ renewed v es (drop n s)
 
 module _ (xs s : List ℕ) where
   pub read-none : fileOf xs ≡ none → (12, s) ≡ lentRead xs s
@@ -146,15 +162,21 @@ module _ (xs s : List ℕ) where
   read-some es h = by-accepted [] (read xs) s (rw h) ∙ ap (λ o. lentFile (entriesOr [] o) s) h
 
   module _ (es : List Entry) (h : fileOf xs ≡ some es) where
-    file-is : xs ≡ fileBytes es
-    file-is = file-accepted xs es h .1
+    -- the file is of some version
+    file-is : (v : ℕ) × (xs ≡ fileAs v es)
+    file-is = let f = file-accepted xs es h .1 in (f .0, f .2)
+
+    size : length xs ≡ length (fileBytes es)
+    size = ap length (file-is .1) ∙ same-length (file-is .0) version es
+
+    -- it has a version in its fifth place
+    pub read-long : 6 ≤ length xs
+    read-long = omega (arith, size, file-size es)
 
     pub read-short : length s < length xs → (11, s) ≡ lentRead xs s
-    read-short k = sym (read-some es h ∙ file-short es s (omega (arith, ap length file-is)))
+    read-short k = sym (read-some es h ∙ file-short es s (omega (arith, size)))
 
-    pub read-put : (last : List ℕ) → length xs ≤ length s → last ≡ take (length xs) xs ++ drop (length xs) s → (0, last) ≡ lentRead xs s
-    unfolding over
-    read-put last k l =
-        let whole : last ≡ xs ++ drop (length xs) s = l ∙ ap (λ (ys : List ℕ). ys ++ drop (length xs) s) (take-all (length xs) xs (omega arith)) in
-        ap (λ (ys : List ℕ). (0, ys)) (whole ∙ ap (λ (ys : List ℕ). ys ++ drop (length ys) s) file-is)
-        ∙ sym (read-some es h ∙ file-put es s (omega (arith, ap length file-is)))
+    pub read-put : (t : List ℕ) → length xs ≤ length s → t ≡ take (length xs) xs ++ drop (length xs) s → (0, set t 4 version) ≡ lentRead xs s
+    read-put t k l =
+        ap (λ (ys : List ℕ). (0, ys)) (copied xs s t (file-is .0) es (file-is .1) l)
+        ∙ sym (read-some es h ∙ file-put es s (omega (arith, size)))

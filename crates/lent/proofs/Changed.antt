@@ -10,13 +10,13 @@ use Rattle.laws.specs.Lists.{map-append}
 use Rattle.laws.specs.Written.{written, written-first}
 use Rattle.paper.specs.declared.Entry.{Entry}
 use Rattle.paper.specs.Rows.{joined}
-use Rattle.paper.specs.File.{entryBytes, fileBytes}
+use Rattle.paper.specs.File.{entryBytes, fileAs, fileBytes}
 use Rattle.paper.specs.Answers.{over}
 use Rattle.paper.specs.Journal.{withoutLast}
 use Rattle.paper.proofs.Lists.{joined-last, last-apart}
 use Rattle.stored.specs.Header.{headerOf}
 use Rattle.stored.specs.Found.{bytesIn}
-use Rattle.stored.proofs.Parts.{length-header, file-parts, file-size}
+use Rattle.stored.proofs.Parts.{length-header, file-parts, file-size, entries-behind}
 use Rattle.front.proofs.Fronts.{behind-header}
 
 -- the bytes of one entry more
@@ -42,19 +42,19 @@ pub put-again : (es : List Entry) (s t last : List ℕ) (n count : ℕ) → n �
 unfolding over
 put-again es s t last n count e c h l = rw (l, e, c) (header-again es t (drop (length (fileBytes es)) s) h)
 
-module _ (s : List ℕ) (es : List Entry) (h : take (length (fileBytes es)) s ≡ fileBytes es) where
-  -- one entry more, put behind the file
+-- the file may be of an older version
+module _ (s : List ℕ) (v : ℕ) (es : List Entry) (h : take (length (fileBytes es)) s ≡ fileAs v es) where
+  -- one entry more, put behind it
   pub entry-put : (e : Entry) → drop 6 (written s (length (fileBytes es)) (entryBytes e)) ≡ bytesIn (es ++ e ∷ []) ++ drop (length (fileBytes (es ++ e ∷ []))) s
   unfolding written
   entry-put e =
       let n = length (fileBytes es) in
       let x = entryBytes e in
       let d = drop (n + length x) s in
-      let head = headerOf (n - 4) (length es) in
-      let apart : ((head ++ bytesIn es) ++ x) ++ d ≡ head ++ ((bytesIn es ++ x) ++ d) = simp append-assoc in
-      ap (λ (xs : List ℕ). drop 6 (xs ++ x ++ d)) (h ∙ file-parts es)
-      ∙ ap (drop 6) apart
-      ∙ drop-at head ((bytesIn es ++ x) ++ d) 6 (length-header (n - 4) (length es))
+      ap (λ (xs : List ℕ). drop 6 (xs ++ x ++ d)) h
+      ∙ ap (drop 6) (append-assoc (fileAs v es) x d)
+      ∙ entries-behind v es (x ++ d)
+      ∙ sym (append-assoc (bytesIn es) x d)
       ∙ ap (λ (xs : List ℕ). xs ++ d) (sym (bytes-more es e))
       ∙ ap (λ (k : ℕ). bytesIn (es ++ e ∷ []) ++ drop k s) (sym (file-more es e))
 
@@ -66,7 +66,7 @@ module _ (s : List ℕ) (es : List Entry) (h : take (length (fileBytes es)) s �
       let x = entryBytes (r .0) in
       let rest = drop (length (fileBytes es)) s in
       let there : drop 6 s ≡ bytesIn fs ++ (x ++ rest) =
-      behind-header s es h
+      behind-header s v es h
       ∙ ap (λ (l : List Entry). bytesIn l ++ rest) (r .1)
       ∙ ap (λ (xs : List ℕ). xs ++ rest) (bytes-more fs (r .0))
       ∙ append-assoc (bytesIn fs) x rest in

@@ -1,14 +1,16 @@
 // The calls that change a record which is lent as its file at the front of a buffer. The file is surveyed in place and changed in
 // place; what stands behind it in the buffer is free and stays. Each call answers by the paper's number, 0 where it is accepted.
+// A file of an older version is taken as it is, and the first call that changes it leaves it in the version that is written.
 use paper::Entry;
 use stored::HEADER;
 use stored::Stored;
+use stored::VERSION;
 ghost use mathlib.Core.Path.{_≡_};
 ghost use mathlib.Core.List.{List, [], _∷_, _++_};
-ghost use Prim.Native.Nat.{_≤_, _<_};
+ghost use Prim.Native.Nat.{ℕ, _≤_, _<_};
 ghost use lib.ListN.{length, take};
 ghost use Rattle.paper.specs.declared.Entry.{Entry};
-ghost use Rattle.paper.specs.File.{fileBytes};
+ghost use Rattle.paper.specs.File.{fileAs};
 ghost use Rattle.paper.specs.Journal.{callOf, undo as Journal·undo};
 ghost use Rattle.lent.specs.Lent.{lentFile, lentCall, lentRead};
 
@@ -23,10 +25,10 @@ pub fn fresh(buffer: &mut [u8]) -> u64
     0
 }
 
-// An entry behind a file of `count` entries that ends at `end`, where the buffer has room for it.
+// An entry behind a file of `count` entries, of whatever version, that ends at `end`, where the buffer has room for it.
 fn append(buffer: &mut [u8], end: usize, count: usize, e: Entry) -> u64
     requires { ⌜ (6 ≤ end) × (end ≤ length (now buffer)) × (count < 64) ⌝ }
-    ensures { λ n. ⌜ ((es : List Entry) → count ≡ length es → take end (now (buffer .entry)) ≡ fileBytes es → (n, now (buffer .exit)) ≡ lentFile (es ++ e ∷ []) (now (buffer .entry))) ⌝ }
+    ensures { λ n. ⌜ ((v : ℕ) (es : List Entry) → count ≡ length es → take end (now (buffer .entry)) ≡ fileAs v es → (n, now (buffer .exit)) ≡ lentFile (es ++ e ∷ []) (now (buffer .entry))) ⌝ }
 {
     if buffer.len() - end < entries::length_of(e) {
         return 11;
@@ -36,7 +38,7 @@ fn append(buffer: &mut [u8], end: usize, count: usize, e: Entry) -> u64
     0
 }
 
-// A weighing, a data sheet or a change.
+// A weighing, plain or paired, a data sheet or a change.
 pub fn add(buffer: &mut [u8], e: Entry) -> u64
     ensures { λ n. ⌜ (n, now (buffer .exit)) ≡ lentCall (callOf e) (now (buffer .entry)) ⌝ }
 {
@@ -65,7 +67,7 @@ pub fn undo(buffer: &mut [u8]) -> u64
     0
 }
 
-// Reading back: a file in the place of what the buffer holds.
+// Reading back: a file in the place of what the buffer holds, in the version that is written.
 pub fn read(buffer: &mut [u8], file: &[u8]) -> u64
     ensures { λ n. ⌜ (n, now (buffer .exit)) ≡ lentRead (now (file .entry)) (now (buffer .entry)) ⌝ }
 {
@@ -76,5 +78,6 @@ pub fn read(buffer: &mut [u8], file: &[u8]) -> u64
         return 11;
     }
     bytes::copy(file, buffer);
+    buffer[4] = VERSION;
     0
 }

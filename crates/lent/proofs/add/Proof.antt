@@ -87,8 +87,9 @@ returns-3 c =
     let es = f .0 in
     let e = k .before .before .before .before .before .before .args .e in
     let none-is : callNumber es (callOf e) ≡ 0 = omega (arith, number n) in
-    let end = ap (λ (n : ℕ). take n (buffer k)) (f .2 .end ∙ sym (file-size es)) ∙ held-file (buffer k) es (f .1) in
-    p .append .ensures es (f .2 .count) end
+    let file = held-file (buffer k) es (f .1) in
+    let end = ap (λ (n : ℕ). take n (buffer k)) (f .2 .end ∙ sym (file-size es)) ∙ file .1 in
+    p .append .ensures (file .0) es (f .2 .count) end
     ∙ sym (accepted-held (callOf e) (buffer k) es (f .1) none-is ∙ ap (λ l. lentFile l (buffer k)) (list-of es e))
 
 pub add-spec : {M : Type 1} → statement M

@@ -12,9 +12,9 @@ length-of-requires : tie.Need-length-of-requires
 length-of-requires c κs = search needs
 
 returns : tie.Need-returns
-returns c es n f =
+returns c v es n f =
     let a = c .before .before .before .args in
-    entry-short (a .buffer .now) es (a .e) (a .end) (c .before .before .before .pre .1) f (omega (arith, c .before .length-of .ensures))
+    entry-short (a .buffer .now) v es (a .e) (a .end) (c .before .before .before .pre .1) f (omega (arith, c .before .length-of .ensures))
 
 put-entry-requires : tie.Need-put-entry-requires
 put-entry-requires c κs = search needs
@@ -32,12 +32,12 @@ same-length : tie.Need-same-length
 same-length c = search needs
 
 returns-2 : tie.Need-returns-2
-returns-2 c es n f =
+returns-2 c v es n f =
     let p = c .before .before in
     let q = p .before .before .before .before in
     let s = q .before .before .before .before .before in
     let a = s .args in
-    entry-added (a .buffer .now) es (a .e) (a .end) (s .pre .1) f _ _ _ _ (omega arith) n (q .put-entry .ensures .0) (q .put-entry .ensures .1) (p .put-header .ensures)
+    entry-added (a .buffer .now) v es (a .e) (a .end) (s .pre .1) f _ _ _ _ (omega arith) n (q .put-entry .ensures .0) (q .put-entry .ensures .1) (p .put-header .ensures)
 
 pub append-spec : {M : Type 1} → statement M
 append-spec =

@@ -1,6 +1,12 @@
--- `lent::read` meets its contract: the bytes are a file, and are copied. Assumes nothing.
+-- `lent::read` meets its contract: the bytes are a file, and are copied but for the version. Assumes nothing.
 use borrow.Author.Needs.{needs}
-use Rattle.lent.proofs.Answers.{read-none, read-short, read-put}
+use mathlib.Core.Path.{_≡_}
+use mathlib.Core.List.{List}
+use mathlib.Core.Option.{some}
+use native.Mathlib.Omega.{arith}
+use Rattle.paper.specs.declared.Entry.{Entry}
+use Rattle.paper.specs.Refusals.{fileOf}
+use Rattle.lent.proofs.Answers.{read-none, read-long, read-short, read-put}
 use Rattle.lent.proofs.read.Statement.{statement}
 use Rattle.lent.proofs.read.Tie as tie
 
@@ -18,14 +24,25 @@ returns c =
     let a = c .before .before .before .before .before .args in
     read-none (a .file .now) (a .buffer .now) (rw (c .enum-told2 .given .1) at (c .before .before .survey .ensures))
 
+-- the list that the bytes are the file of
+file : (c : tie.After-enum-told) → (es : List Entry) × (fileOf (c .before .before .before .before .before .args .file .now) ≡ some es)
+file c = let f = rw (c .enum-told .given .1) at (c .before .before .survey .ensures) in (f .0, f .1)
+
 returns-2 : tie.Need-returns-2
 returns-2 c =
     let a = c .before .before .before .before .before .before .args in
-    let f = rw (c .before .enum-told .given .1) at (c .before .before .before .survey .ensures) in
+    let f = file (c .before) in
     read-short (a .file .now) (a .buffer .now) (f .0) (f .1) (c .if1 .taken)
 
 copy-requires : tie.Need-copy-requires
 copy-requires c κs = search needs
+
+slice-write-buffer : tie.Need-slice-write-buffer
+slice-write-buffer c =
+    let t = c .before .before .before .before in
+    let a = t .before .before .before .before .before .before .args in
+    let f = file (t .before) in
+    omega (arith, read-long (a .file .now) (a .buffer .now) (f .0) (f .1))
 
 same-length : tie.Need-same-length
 same-length c = search needs
@@ -35,7 +52,7 @@ returns-3 c =
     let p = c .before .before in
     let t = p .before .before in
     let a = t .before .before .before .before .before .before .args in
-    let f = rw (t .before .enum-told .given .1) at (t .before .before .before .survey .ensures) in
+    let f = file (t .before) in
     read-put (a .file .now) (a .buffer .now) (f .0) (f .1) _ (t .if1 .left) (p .copy .ensures .1)
 
 pub read-spec : {M : Type 1} → statement M
@@ -48,5 +65,6 @@ read-spec =
     returns
     returns-2
     copy-requires
+    slice-write-buffer
     same-length
     returns-3)
