@@ -1,6 +1,7 @@
-// A weighing, a sheet and a change of their values in the order of the file.
+// A weighing, a sheet, a change and a paired weighing of their values in the order of the file.
 use layout::FIELDS;
 use paper::Change;
+use paper::Paired;
 use paper::Sheet;
 use paper::Station;
 use paper::Weighing;
@@ -66,5 +67,20 @@ pub fn change_of(v: [i64; FIELDS]) -> Change
         c: v[0],
         arm: v[1],
         flag: plain(v[2]),
+    }
+}
+
+pub fn paired_of(v: [i64; FIELDS]) -> Paired
+    ensures { λ r. ⌜ entry.Paired r ≡ entryOf 4 v ⌝ }
+{
+    Paired {
+        m: plain(v[0]),
+        p: plain(v[1]),
+        q: plain(v[2]),
+        p2: plain(v[3]),
+        q2: plain(v[4]),
+        a: v[5],
+        b: plain(v[6]),
+        n: plain(v[7]),
     }
 }

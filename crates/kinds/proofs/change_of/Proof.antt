@@ -1,8 +1,7 @@
 -- `kinds::change_of` meets its contract: the flag is without its sign. Assumes nothing.
-use mathlib.Core.Path.{_≡_}
 use borrow.Author.Needs.{needs}
-use mir.Facts.{toZ-ofZ}
-use Rattle.paper.specs.File.{plainAt, entryOf}
+use Rattle.paper.specs.File.{entryOf}
+use Rattle.kinds.proofs.Held.{held, plain-held}
 use Rattle.kinds.proofs.change_of.Statement.{statement}
 use Rattle.kinds.proofs.change_of.Tie as tie
 
@@ -23,8 +22,11 @@ unfolding entryOf
 returns c =
     let b = c .before in
     let v = b .before .before .before .args .t1 in
-    let flag : c .plain .result ≡ plainAt v 2 = rw (toZ-ofZ (record { sfits = b .plain-arg .given })) at (c .plain .ensures) in
-    rw (toZ-ofZ (record { sfits = b .before .before .t5 .given }), toZ-ofZ (record { sfits = b .before .t8 .given }), flag)
+    rw (
+      held v 0 (b .before .before .t5 .given),
+      held v 1 (b .before .t8 .given),
+      plain-held v 2 _ (b .plain-arg .given) (c .plain .ensures),
+    )
 
 pub change-of-spec : {M : Type 1} → statement M
 change-of-spec =

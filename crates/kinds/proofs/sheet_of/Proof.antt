@@ -7,30 +7,24 @@ use lib.Signed.{mag}
 use mir.Syntax.{w64}
 use mir.Val.{hbits, toZ, ofZ}
 use borrow.Author.Needs.{needs}
-use mir.Facts.{toZ-ofZ}
 use Rattle.paper.specs.declared.Station.{Station}
 use Rattle.paper.specs.declared.Entry.the-variants as entry
 use Rattle.paper.specs.File.{signedAt, plainAt, stationAt, entryOf}
+use Rattle.kinds.proofs.Held.{held, plain-held}
 use Rattle.kinds.proofs.sheet_of.Statement.{statement}
 use Rattle.kinds.proofs.sheet_of.Tie as tie
 
--- what a list's values come to that were held in registers
-module _ (v : List ℤ) where
-  held : (i : ℕ) → mag (signedAt v i) < 2 ^ hbits w64 → toZ w64 (ofZ w64 (signedAt v i)) ≡ signedAt v i
-  held i h = toZ-ofZ (record { sfits = h })
-
-  plain-held : (i : ℕ) (r : ℕ) → mag (signedAt v i) < 2 ^ hbits w64 → r ≡ natAbs (toZ w64 (ofZ w64 (signedAt v i))) → r ≡ plainAt v i
-  plain-held i r h e = rw (held i h) at e
-
-  station-held :
-      (i j k : ℕ)
-      (r : Station)
-      → mag (signedAt v i) < 2 ^ hbits w64
-      → mag (signedAt v j) < 2 ^ hbits w64
-      → mag (signedAt v k) < 2 ^ hbits w64
-      → r ≡ record { arm = toZ w64 (ofZ w64 (signedAt v i)); most = natAbs (toZ w64 (ofZ w64 (signedAt v j))); step = natAbs (toZ w64 (ofZ w64 (signedAt v k))) }
-      → r ≡ stationAt v i j k
-  station-held i j k r f g h e = rw (held i f, held j g, held k h) at e
+-- a station of values that were held in registers
+station-held :
+    (v : List ℤ)
+    (i j k : ℕ)
+    (r : Station)
+    → mag (signedAt v i) < 2 ^ hbits w64
+    → mag (signedAt v j) < 2 ^ hbits w64
+    → mag (signedAt v k) < 2 ^ hbits w64
+    → r ≡ record { arm = toZ w64 (ofZ w64 (signedAt v i)); most = natAbs (toZ w64 (ofZ w64 (signedAt v j))); step = natAbs (toZ w64 (ofZ w64 (signedAt v k))) }
+    → r ≡ stationAt v i j k
+station-held v i j k r f g h e = rw (held v i f, held v j g, held v k h) at e
 
 -- a sheet with the values of a list is the list's
 sheet-made :

@@ -1,8 +1,7 @@
 -- `kinds::weighing_of` meets its contract: all but one of the values are without their signs. Assumes nothing.
-use mathlib.Core.Path.{_≡_}
 use borrow.Author.Needs.{needs}
-use mir.Facts.{toZ-ofZ}
-use Rattle.paper.specs.File.{plainAt, entryOf}
+use Rattle.paper.specs.File.{entryOf}
+use Rattle.kinds.proofs.Held.{held, plain-held}
 use Rattle.kinds.proofs.weighing_of.Statement.{statement}
 use Rattle.kinds.proofs.weighing_of.Tie as tie
 
@@ -48,12 +47,14 @@ returns c =
     let second = third .before .before in
     let first = second .before .before in
     let v = first .before .before .args .t1 in
-    let m : first .plain .result ≡ plainAt v 0 = rw (toZ-ofZ (record { sfits = first .before .plain-arg .given })) at (first .plain .ensures) in
-    let p : second .plain2 .result ≡ plainAt v 1 = rw (toZ-ofZ (record { sfits = second .before .plain-arg2 .given })) at (second .plain2 .ensures) in
-    let q : third .plain3 .result ≡ plainAt v 2 = rw (toZ-ofZ (record { sfits = third .before .plain-arg3 .given })) at (third .plain3 .ensures) in
-    let b : fourth .plain4 .result ≡ plainAt v 4 = rw (toZ-ofZ (record { sfits = fourth .before .plain-arg4 .given })) at (fourth .plain4 .ensures) in
-    let n : c .plain5 .result ≡ plainAt v 5 = rw (toZ-ofZ (record { sfits = c .before .plain-arg5 .given })) at (c .plain5 .ensures) in
-    rw (toZ-ofZ (record { sfits = signed .t17 .given }), m, p, q, b, n)
+    rw (
+      plain-held v 0 _ (first .before .plain-arg .given) (first .plain .ensures),
+      plain-held v 1 _ (second .before .plain-arg2 .given) (second .plain2 .ensures),
+      plain-held v 2 _ (third .before .plain-arg3 .given) (third .plain3 .ensures),
+      held v 3 (signed .t17 .given),
+      plain-held v 4 _ (fourth .before .plain-arg4 .given) (fourth .plain4 .ensures),
+      plain-held v 5 _ (c .before .plain-arg5 .given) (c .plain5 .ensures),
+    )
 
 pub weighing-of-spec : {M : Type 1} → statement M
 weighing-of-spec =
