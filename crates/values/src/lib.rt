@@ -2,6 +2,7 @@
 use layout::FIELDS;
 use paper::Change;
 use paper::Entry;
+use paper::Paired;
 use paper::Sheet;
 use paper::Weighing;
 ghost use mathlib.Core.Path.{_≡_};
@@ -87,6 +88,29 @@ fn change_values(x: Change) -> [i64; FIELDS]
     ]
 }
 
+fn paired_values(x: Paired) -> [i64; FIELDS]
+    requires { ⌜ Readable (entry.Paired x) ⌝ }
+    ensures { λ r. ⌜ r ≡ valuesIn (entry.Paired x) .places ⌝ }
+{
+    [
+        x.m as i64,
+        x.p as i64,
+        x.q as i64,
+        x.p2 as i64,
+        x.q2 as i64,
+        x.a,
+        x.b as i64,
+        x.n as i64,
+        0,
+        0,
+        0,
+        0,
+        0,
+        0,
+        0,
+    ]
+}
+
 // An entry as its values.
 pub fn values_of(e: Entry) -> Values
     requires { ⌜ Readable e ⌝ }
@@ -105,6 +129,10 @@ pub fn values_of(e: Entry) -> Values
             count: 3,
             places: change_values(x),
         },
+        Entry::Paired(x) => Values {
+            count: 8,
+            places: paired_values(x),
+        },
     }
 }
 
@@ -115,6 +143,7 @@ pub fn entry_of(kind: u8, v: [i64; FIELDS]) -> Entry
     match kind {
         1 => Entry::Weighing(kinds::weighing_of(v)),
         2 => Entry::Sheet(kinds::sheet_of(v)),
-        _ => Entry::Change(kinds::change_of(v)),
+        3 => Entry::Change(kinds::change_of(v)),
+        _ => Entry::Paired(kinds::paired_of(v)),
     }
 }

@@ -9,10 +9,10 @@ use Rattle.paper.specs.File.{entryOf}
 use Rattle.values.proofs.entry_of.Statement.{statement}
 use Rattle.values.proofs.entry_of.Tie as tie
 
--- what is neither the first kind nor the second is a change
-others : (k : ℕ) (vs : List ℤ) → (k ≡ 1 → ⊥) → (k ≡ 2 → ⊥) → entryOf 3 vs ≡ entryOf k vs
+-- what is none of the first three kinds is a paired weighing
+others : (k : ℕ) (vs : List ℤ) → (k ≡ 1 → ⊥) → (k ≡ 2 → ⊥) → (k ≡ 3 → ⊥) → entryOf 4 vs ≡ entryOf k vs
 unfolding entryOf
-others k vs a b = rw (ne-eqb k 1 a, ne-eqb k 2 b)
+others k vs a b d = rw (ne-eqb k 1 a, ne-eqb k 2 b, ne-eqb k 3 d)
 
 weighing-of-requires : tie.Need-weighing-of-requires
 weighing-of-requires c κs = search needs
@@ -22,6 +22,9 @@ sheet-of-requires c κs = search needs
 
 change-of-requires : tie.Need-change-of-requires
 change-of-requires c κs = search needs
+
+paired-of-requires : tie.Need-paired-of-requires
+paired-of-requires c κs = search needs
 
 returns : tie.Need-returns
 returns c =
@@ -36,8 +39,13 @@ returns-2 c =
 returns-3 : tie.Need-returns-3
 returns-3 c =
     let b = c .before in
+    c .change-of .ensures ∙ ap (λ (k : ℕ). entryOf k (b .before .args .v)) (sym (b .match .keys3))
+
+returns-4 : tie.Need-returns-4
+returns-4 c =
+    let b = c .before in
     let m = b .match .rest in
-    c .change-of .ensures ∙ others (b .before .args .kind) (b .before .args .v) (m .0 .1) (m .1)
+    c .paired-of .ensures ∙ others (b .before .args .kind) (b .before .args .v) (m .0 .0 .1) (m .0 .1) (m .1)
 
 pub entry-of-spec : {M : Type 1} → statement M
 entry-of-spec =
@@ -46,6 +54,8 @@ entry-of-spec =
     weighing-of-requires
     sheet-of-requires
     change-of-requires
+    paired-of-requires
     returns
     returns-2
-    returns-3)
+    returns-3
+    returns-4)

@@ -31,6 +31,12 @@ enum-known-e-3 c = search needs
 change-values-requires : tie.Need-change-values-requires
 change-values-requires c κs = rw (c .before .e3 .given .1) at (c .before .before .before .pre)
 
+enum-known-e-4 : tie.Need-enum-known-e-4
+enum-known-e-4 c = search needs
+
+paired-values-requires : tie.Need-paired-values-requires
+paired-values-requires c κs = rw (c .before .e4 .given .1) at (c .before .before .before .pre)
+
 returns : tie.Need-returns
 returns c = ap (held 6) (c .weighing-values .ensures) ∙ sym (ap valuesIn (c .before .before .e .given .1))
 
@@ -39,6 +45,9 @@ returns-2 c = ap (held 15) (c .sheet-values .ensures) ∙ sym (ap valuesIn (c .b
 
 returns-3 : tie.Need-returns-3
 returns-3 c = ap (held 3) (c .change-values .ensures) ∙ sym (ap valuesIn (c .before .before .e3 .given .1))
+
+returns-4 : tie.Need-returns-4
+returns-4 c = ap (held 8) (c .paired-values .ensures) ∙ sym (ap valuesIn (c .before .before .e4 .given .1))
 
 pub values-of-spec : {M : Type 1} → statement M
 values-of-spec =
@@ -50,6 +59,9 @@ values-of-spec =
     sheet-values-requires
     enum-known-e-3
     change-values-requires
+    enum-known-e-4
+    paired-values-requires
     returns
     returns-2
-    returns-3)
+    returns-3
+    returns-4)
