@@ -28,6 +28,7 @@ unfolding nameOf
 kind-most (entry.Weighing w) = omega arith
 kind-most (entry.Sheet s) = omega arith
 kind-most (entry.Change x) = omega arith
+kind-most (entry.Paired x) = omega arith
 
 pub text-most : (e : Entry) → length (entryText e) ≤ 338
 unfolding entryText
@@ -45,6 +46,7 @@ unfolding nameOf
 name-above (entry.Weighing w) = omega arith
 name-above (entry.Sheet s) = omega arith
 name-above (entry.Change x) = omega arith
+name-above (entry.Paired x) = omega arith
 
 values-above : (vs : List ℤ) → Each Above (joined (map spaced vs))
 unfolding joined

@@ -25,7 +25,8 @@ fn put_name(out: &mut [u8], at: usize, kind: u8) -> usize
     match kind {
         1 => put_bytes(out, at, b"weighing"),
         2 => put_bytes(out, at, b"sheet"),
-        _ => put_bytes(out, at, b"change"),
+        3 => put_bytes(out, at, b"change"),
+        _ => put_bytes(out, at, b"paired"),
     }
 }
 
@@ -49,11 +50,6 @@ pub fn put_entry(out: &mut [u8], at: usize, e: Entry) -> usize
     requires { ⌜ Readable e × (at + length (entryText e) ≤ length (now out)) ⌝ }
     ensures { λ r. ⌜ (r ≡ at + length (entryText e)) × (now (out .exit) ≡ written (now (out .entry)) at (entryText e)) ⌝ }
 {
-    let kind = match e {
-        Entry::Weighing(_) => 1,
-        Entry::Sheet(_) => 2,
-        Entry::Change(_) => 3,
-    };
-    let from = put_name(out, at, kind);
+    let from = put_name(out, at, layout::kind_of(e));
     put_values(out, from, values::values_of(e))
 }

@@ -19,9 +19,13 @@ second : (k : ℕ) → k ≡ 2 → nameOf k ≡ 115 ∷ 104 ∷ 101 ∷ 101 ∷ 
 unfolding nameOf
 second k e = rw e
 
-other : (k : ℕ) → (k ≡ 1 → ⊥) → (k ≡ 2 → ⊥) → nameOf k ≡ 99 ∷ 104 ∷ 97 ∷ 110 ∷ 103 ∷ 101 ∷ []
+third : (k : ℕ) → k ≡ 3 → nameOf k ≡ 99 ∷ 104 ∷ 97 ∷ 110 ∷ 103 ∷ 101 ∷ []
 unfolding nameOf
-other k a b = rw (ne-eqb k 1 a, ne-eqb k 2 b)
+third k e = rw e
+
+other : (k : ℕ) → (k ≡ 1 → ⊥) → (k ≡ 2 → ⊥) → (k ≡ 3 → ⊥) → nameOf k ≡ 112 ∷ 97 ∷ 105 ∷ 114 ∷ 101 ∷ 100 ∷ []
+unfolding nameOf
+other k a b d = rw (ne-eqb k 1 a, ne-eqb k 2 b, ne-eqb k 3 d)
 
 slice-aggregate-put-bytes : tie.Need-slice-aggregate-put-bytes
 slice-aggregate-put-bytes c = search needs
@@ -45,8 +49,16 @@ slice-aggregate-put-bytes-3 c = search needs
 put-bytes-requires-3 : tie.Need-put-bytes-requires-3
 put-bytes-requires-3 c κs =
     let b = c .before .before in
+    omega (arith, ap length (third (b .before .before .args .kind) (b .match .keys3)))
+
+slice-aggregate-put-bytes-4 : tie.Need-slice-aggregate-put-bytes-4
+slice-aggregate-put-bytes-4 c = search needs
+
+put-bytes-requires-4 : tie.Need-put-bytes-requires-4
+put-bytes-requires-4 c κs =
+    let b = c .before .before in
     let m = b .match .rest in
-    omega (arith, ap length (other (b .before .before .args .kind) (m .0 .1) (m .1)))
+    omega (arith, ap length (other (b .before .before .args .kind) (m .0 .0 .1) (m .0 .1) (m .1)))
 
 same-length : tie.Need-same-length
 same-length c = search needs
@@ -73,8 +85,17 @@ returns-3 : tie.Need-returns-3
 returns-3 c =
     let p = c .before .before in
     let b = p .before .before .before in
+    rw (third (b .before .before .args .kind) (b .match .keys3)) (p .put-bytes3 .ensures)
+
+same-length-4 : tie.Need-same-length-4
+same-length-4 c = search needs
+
+returns-4 : tie.Need-returns-4
+returns-4 c =
+    let p = c .before .before in
+    let b = p .before .before .before in
     let m = b .match .rest in
-    rw (other (b .before .before .args .kind) (m .0 .1) (m .1)) (p .put-bytes3 .ensures)
+    rw (other (b .before .before .args .kind) (m .0 .0 .1) (m .0 .1) (m .1)) (p .put-bytes4 .ensures)
 
 pub put-name-spec : {M : Type 1} → statement M
 put-name-spec =
@@ -86,9 +107,13 @@ put-name-spec =
     put-bytes-requires-2
     slice-aggregate-put-bytes-3
     put-bytes-requires-3
+    slice-aggregate-put-bytes-4
+    put-bytes-requires-4
     same-length
     returns
     same-length-2
     returns-2
     same-length-3
-    returns-3)
+    returns-3
+    same-length-4
+    returns-4)
