@@ -18,16 +18,17 @@ use Rattle.language.specs.Lines.{firstWord, otherWords, kindNamed, value
 abbrev Small : List ℤ → Type 0
 Small vs = (i : ℕ) → plainAt vs i < 10 ^ mostDigits
 
-readable-by : (t u : Bool) (k : ℕ) (vs : List ℤ) → eqb k 1 ≡ t → eqb k 2 ≡ u → Small vs → Readable (entryOf k vs)
+readable-by : (t u v : Bool) (k : ℕ) (vs : List ℤ) → eqb k 1 ≡ t → eqb k 2 ≡ u → eqb k 3 ≡ v → Small vs → Readable (entryOf k vs)
 unfolding entryOf
-readable-by true u k vs e f h = rw e (h 0, (h 1, (h 2, (h 3, (h 4, (h 5, tt))))))
-readable-by false true k vs e f h =
+readable-by true u v k vs e f g h = rw e (h 0, (h 1, (h 2, (h 3, (h 4, (h 5, tt))))))
+readable-by false true v k vs e f g h =
     rw (e, f)
     (h 0, (h 1, (h 2, (h 3, (h 4, (h 5, (h 6, (h 7, (h 8, (h 9, (h 10, (h 11, (h 12, (h 13, (h 14, tt)))))))))))))))
-readable-by false false k vs e f h = rw (e, f) (h 0, (h 1, (h 2, tt)))
+readable-by false false true k vs e f g h = rw (e, f, g) (h 0, (h 1, (h 2, tt)))
+readable-by false false false k vs e f g h = rw (e, f, g) (h 0, (h 1, (h 2, (h 3, (h 4, (h 5, (h 6, (h 7, tt))))))))
 
 entry-readable : (k : ℕ) (vs : List ℤ) → Small vs → Readable (entryOf k vs)
-entry-readable k vs h = readable-by (eqb k 1) (eqb k 2) k vs refl refl h
+entry-readable k vs h = readable-by (eqb k 1) (eqb k 2) (eqb k 3) k vs refl refl refl h
 
 values-small : (k : ℕ) (xs : List ℕ) → Small (valuesFrom k xs)
 unfolding valuesFrom

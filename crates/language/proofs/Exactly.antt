@@ -60,12 +60,14 @@ unfolding kindNamed entryText nameOf
 kind-named (entry.Weighing w) = refl
 kind-named (entry.Sheet s) = refl
 kind-named (entry.Change x) = refl
+kind-named (entry.Paired x) = refl
 
 name-word : (e : Entry) → Word (nameOf (kindOf e))
 unfolding nameOf
 name-word (entry.Weighing w) = omega arith
 name-word (entry.Sheet s) = omega arith
 name-word (entry.Change x) = omega arith
+name-word (entry.Paired x) = omega arith
 
 others-text : (e : Entry) → otherWords (entryText e) ≡ drop 1 (valuesText (valuesOf e))
 unfolding entryText
@@ -76,18 +78,21 @@ unfolding entryOf
 in-places (entry.Weighing w) = refl
 in-places (entry.Sheet s) = refl
 in-places (entry.Change x) = refl
+in-places (entry.Paired x) = refl
 
 text-kept : (e : Entry) → passedOver (entryText e) ≡ false
 unfolding passedOver entryText nameOf
 text-kept (entry.Weighing w) = refl
 text-kept (entry.Sheet s) = refl
 text-kept (entry.Change x) = refl
+text-kept (entry.Paired x) = refl
 
 text-no-undo : (e : Entry) → eqList eqb (entryText e) undoText ≡ false
 unfolding entryText nameOf
 text-no-undo (entry.Weighing w) = refl
 text-no-undo (entry.Sheet s) = refl
 text-no-undo (entry.Change x) = refl
+text-no-undo (entry.Paired x) = refl
 
 eq-texts : (xs : List ℕ) → eqList eqb xs xs ≡ true
 eq-texts xs = list-same eqb (λ x. eq-eqb x x refl) xs

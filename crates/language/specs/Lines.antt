@@ -40,9 +40,9 @@ Means xs line.NotUnderstood = (passedOver xs ≡ false) × (xs ≡ undoText → 
 
 -- ---- what a line says, worked out
 
--- the kind whose name begins with this letter: w, s, or else c
+-- the kind whose name begins with this letter: w, s, c, or else p
 unfoldable pub kindNamed : ℕ → ℕ
-kindNamed x = cond (eqb x 119) 1 (cond (eqb x 115) 2 3)
+kindNamed x = cond (eqb x 119) 1 (cond (eqb x 115) 2 (cond (eqb x 99) 3 4))
 
 -- what stands before the first space, and behind it
 unfoldable pub firstWord : List ℕ → List ℕ

@@ -26,7 +26,8 @@ fn kind_named(x: u8) -> u8
     match x {
         b'w' => 1,
         b's' => 2,
-        _ => 3,
+        b'c' => 3,
+        _ => 4,
     }
 }
 
