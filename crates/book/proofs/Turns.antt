@@ -55,9 +55,11 @@ unfolding callNumber callOf entryNumber
 entry-number es (entry.Weighing w) = refl
 entry-number es (entry.Sheet s) = refl
 entry-number es (entry.Change x) = refl
+entry-number es (entry.Paired x) = refl
 
 pub entry-added : (es : List Entry) (e : Entry) → acceptedCall es (callOf e) ≡ es ++ e ∷ []
 unfolding acceptedCall callOf
 entry-added es (entry.Weighing w) = refl
 entry-added es (entry.Sheet s) = refl
 entry-added es (entry.Change x) = refl
+entry-added es (entry.Paired x) = refl
