@@ -7,7 +7,6 @@ use mathlib.Core.List.{List, [], _∷_, _++_, append-assoc, append-nil}
 use Prim.Native.Nat.{ℕ, suc, _<_}
 use native.Mathlib.Omega.{arith}
 use lib.Dec.{ltb, eqb}
-use lib.IntN.{ℤ}
 use lib.ListN.{length, take, drop}
 use lib.Seq.{take-append-seam}
 use denote.Ref.{now}
@@ -20,11 +19,12 @@ use Rattle.paper.specs.declared.Entry.the-variants as entry
 use Rattle.paper.specs.declared.CentreOfGravity.{CentreOfGravity}
 use Rattle.paper.specs.declared.Written.{Written}
 use Rattle.paper.specs.Placard.{feed}
+use Rattle.paper.specs.Record.{alike, paired}
 use Rattle.paper.specs.Refusals.{firstNumber, _when_, entryNumber, acceptedAfter, accepted, weighingNumber, sheetNumber, changeNumber}
 use Rattle.paper.specs.Journal.{callNumber, acceptedCall, callOf}
 use Rattle.paper.specs.Answers.{centreAnswer, over, writtenBy}
-use Rattle.numerals.specs.Numerals.{decimal, numeral}
-use Rattle.numerals.proofs.Words.{decimal-above, numeral-above}
+use Rattle.numerals.specs.Numerals.{numeral}
+use Rattle.numerals.proofs.Words.{numeral-above}
 use Rattle.wording.specs.Texts.{entryText}
 use Rattle.wording.proofs.Plain.{text-above}
 use Rattle.language.specs.declared.Line.the-variants as line
@@ -38,7 +38,8 @@ use Rattle.book.specs.declared.Reading.{Reading}
 use Rattle.book.specs.declared.Ending.the-variants as ending
 use Rattle.book.specs.Books.{Outcome, stands, called, afterLine, afterLines, bookOf, readingOf}
 use Rattle.book.proofs.read.Reads as read
-use Rattle.listing.specs.Listings.{totalText, momentText, centreText, comment, remark, linesOf, listedAfter, listing, listedAnswer}
+use Rattle.listing.specs.Listings.{totalText, momentText, centreText, halves, signedHalves, comment, remark, linesOf, listedAfter, listing, listedAnswer}
+use Rattle.listing.proofs.Halves.{halves-above, signed-above}
 use Rattle.listing.proofs.Readables.{entry-readable}
 use Rattle.listing.proofs.show.Reads as show
 
@@ -61,9 +62,10 @@ last-line i es = refl
 -- an entry that gets no number, by its call
 entry-called : (i : ℕ) (es : List Entry) (e : Entry) → entryNumber es e ≡ 0 → called i es (callOf e) ≡ stands (es ++ e ∷ [])
 unfolding called callOf callNumber acceptedCall entryNumber
-entry-called i es (entry.Weighing w) n = rw (eq-eqb (weighingNumber es w) 0 n)
+entry-called i es (entry.Weighing w) n = rw (eq-eqb (weighingNumber es (alike w)) 0 n)
 entry-called i es (entry.Sheet s) n = rw (eq-eqb (sheetNumber es s) 0 n)
 entry-called i es (entry.Change x) n = rw (eq-eqb (changeNumber es x) 0 n)
+entry-called i es (entry.Paired x) n = rw (eq-eqb (weighingNumber es (paired x)) 0 n)
 
 -- a line that says it
 entry-line : (i : ℕ) (es : List Entry) (e : Entry) (l : List ℕ) (ls : List (List ℕ)) → says l ≡ line.Entry e → entryNumber es e ≡ 0 → afterLines i (stands es) (l ∷ ls) ≡ afterLines (suc i) (stands (es ++ e ∷ [])) ls
@@ -72,29 +74,30 @@ entry-line i es e l ls h n = rw (h, entry-called (suc i) es e n)
 
 -- ---- a comment
 
-decimal-plain : (n : ℕ) → Plain (decimal n)
-decimal-plain n = each-more (λ (x : ℕ). 44 < x) (λ (x : ℕ). feed < x) (λ x h. omega arith) (decimal n) (decimal-above n)
-
-numeral-plain : (z : ℤ) → Plain (numeral z)
-numeral-plain z = each-more (λ (x : ℕ). 44 < x) (λ (x : ℕ). feed < x) (λ x h. omega arith) (numeral z) (numeral-above z)
+-- no byte of a number is below a hyphen
+number-plain : (xs : List ℕ) → Each (λ (x : ℕ). 44 < x) xs → Plain xs
+number-plain xs h = each-more (λ (x : ℕ). 44 < x) (λ (x : ℕ). feed < x) (λ x h. omega arith) xs h
 
 -- its line without the line feed
 abbrev said : CentreOfGravity → List ℕ
-said c = totalText ++ decimal (c .total) ++ momentText ++ numeral (c .moment) ++ centreText ++ numeral (c .centre)
+said c = totalText ++ halves (c .total) ++ momentText ++ signedHalves (c .moment) ++ centreText ++ numeral (c .centre)
 
 and-plain : (xs ys : List ℕ) → Plain xs → Plain ys → Plain (xs ++ ys)
 and-plain = each-append (λ (x : ℕ). feed < x)
 
 said-plain : (c : CentreOfGravity) → Plain (said c)
 said-plain c =
-    let a = totalText ++ decimal (c .total) in
-    let b = a ++ momentText ++ numeral (c .moment) in
+    let n = halves (c .total) in
+    let m = signedHalves (c .moment) in
+    let k = numeral (c .centre) in
+    let a = totalText ++ n in
+    let b = a ++ momentText ++ m in
     let total : Plain totalText = omega arith in
     let moment : Plain momentText = omega arith in
     let centre : Plain centreText = omega arith in
-    let first : Plain a = and-plain totalText (decimal (c .total)) total (decimal-plain (c .total)) in
-    let second : Plain b = and-plain (a ++ momentText) (numeral (c .moment)) (and-plain a momentText first moment) (numeral-plain (c .moment)) in
-    and-plain (b ++ centreText) (numeral (c .centre)) (and-plain b centreText second centre) (numeral-plain (c .centre))
+    let first : Plain a = and-plain totalText n total (number-plain n (halves-above (c .total))) in
+    let second : Plain b = and-plain (a ++ momentText) m (and-plain a momentText first moment) (number-plain m (signed-above (c .moment))) in
+    and-plain (b ++ centreText) k (and-plain b centreText second centre) (number-plain k (numeral-above (c .centre)))
 
 signed : (c : CentreOfGravity) → passedOver (said c) ≡ true
 unfolding passedOver
@@ -113,6 +116,7 @@ unfolding remark
 remark-passed es c (entry.Weighing w) rest o h i = comment-passed i es c rest ∙ h (suc i)
 remark-passed es c (entry.Sheet s) rest o h i = h i
 remark-passed es c (entry.Change x) rest o h i = comment-passed i es c rest ∙ h (suc i)
+remark-passed es c (entry.Paired x) rest o h i = comment-passed i es c rest ∙ h (suc i)
 
 -- ---- a listing
 

@@ -44,7 +44,7 @@ module _ (slots : List Slot) (i n : ℕ) (d : Slot) (s : Standing) (h : i < leng
     pub readable : Readable e
     readable = entry-readable es e none
 
-    pub lines-within : (c : CentreOfGravity) → length (listing es) + length (linesOf c e) ≤ 27264
+    pub lines-within : (c : CentreOfGravity) → length (listing es) + length (linesOf c e) ≤ 27520
     lines-within c = omega (arith, lines-most c e, listing-most es, room-for es e none)
 
     pub lines-more : (c : CentreOfGravity) → c ≡ centreAnswer (es ++ e ∷ []) → listing es ++ linesOf c e ≡ listing (heldTo slots (i + 1))

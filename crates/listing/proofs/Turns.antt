@@ -1,5 +1,5 @@
 -- The listing of a list with one entry more, by recursion on the list, and the parts of an entry's lines. Assumes nothing.
-use mathlib.Core.Path.{_≡_, refl, sym, ap, _∙_}
+use mathlib.Core.Path.{_≡_, refl, ap, _∙_}
 use mathlib.Core.Logic.{inl, inr}
 use mathlib.Core.List.{List, [], _∷_, _++_, append-assoc, append-nil}
 use Prim.Native.Nat.{ℕ}
@@ -13,9 +13,8 @@ use Rattle.paper.specs.declared.CentreOfGravity.{CentreOfGravity}
 use Rattle.paper.specs.Placard.{feed}
 use Rattle.paper.specs.Answers.{centreAnswer}
 use Rattle.paper.proofs.Entry.{the-type}
-use Rattle.numerals.specs.Numerals.{decimal, numeral}
 use Rattle.wording.specs.Texts.{entryText}
-use Rattle.listing.specs.Listings.{totalText, momentText, centreText, comment, remark, linesOf, listedAfter, listing}
+use Rattle.listing.specs.Listings.{comment, remark, linesOf, listedAfter, listing}
 
 -- the first entries of what is listed behind a list, and the others
 listed-append : (es fs gs : List Entry) → listedAfter es (fs ++ gs) ≡ listedAfter es fs ++ listedAfter (es ++ fs) gs
@@ -30,12 +29,14 @@ unfolding listing listedAfter
 listing-more fs f = listed-append [] fs (f ∷ []) ∙ ap (λ (l : List ℕ). listedAfter [] fs ++ l) (append-nil (linesOf (centreAnswer (fs ++ f ∷ [])) f))
 
 -- an entry that is no sheet has a comment
-pub commented : (c : CentreOfGravity) (e : Entry) → OneOf (0 ∷ 2 ∷ []) (tagOf the-type e) → remark c e ≡ comment c
+pub commented : (c : CentreOfGravity) (e : Entry) → OneOf (0 ∷ 2 ∷ 3 ∷ []) (tagOf the-type e) → remark c e ≡ comment c
 unfolding remark
 commented c (entry.Weighing w) h = refl
 commented c (entry.Sheet s) (inl h) = absurd (omega arith)
-commented c (entry.Sheet s) (inr h) = absurd (omega arith)
+commented c (entry.Sheet s) (inr (inl h)) = absurd (omega arith)
+commented c (entry.Sheet s) (inr (inr h)) = absurd (omega arith)
 commented c (entry.Change x) h = refl
+commented c (entry.Paired x) h = refl
 
 -- a sheet has none
 pub uncommented : (c : CentreOfGravity) (e : Entry) (s : Sheet) → e ≡ entry.Sheet s → remark c e ≡ []
@@ -46,12 +47,3 @@ uncommented c e s h = rw h
 pub lines-parts : (c : CentreOfGravity) (e : Entry) → entryText e ++ feed ∷ [] ++ remark c e ≡ linesOf c e
 unfolding linesOf
 lines-parts c e = append-assoc (entryText e) (feed ∷ []) (remark c e)
-
--- the labelled numbers of a comment
-pub comment-parts : (c : CentreOfGravity) → totalText ++ decimal (c .total) ++ (momentText ++ numeral (c .moment)) ++ (centreText ++ numeral (c .centre)) ++ feed ∷ [] ≡ comment c
-unfolding comment
-comment-parts c =
-    let a = totalText ++ decimal (c .total) in
-    let b = a ++ momentText ++ numeral (c .moment) in
-    ap (λ (l : List ℕ). l ++ (centreText ++ numeral (c .centre)) ++ feed ∷ []) (sym (append-assoc a momentText (numeral (c .moment))))
-    ∙ ap (λ (l : List ℕ). l ++ feed ∷ []) (sym (append-assoc b centreText (numeral (c .centre))))

@@ -1,14 +1,16 @@
 -- The listing of a record: its entries as lines of a logbook, and behind each weighing and change a comment that says what it
 -- comes to.
+use mathlib.Core.Bool.{cond}
 use mathlib.Core.List.{List, [], _∷_, _++_}
-use Prim.Native.Nat.{ℕ}
-use lib.Dec.{ltb}
+use Prim.Native.Nat.{ℕ, suc, _/_, _%_}
+use lib.Dec.{ltb, eqb}
+use lib.IntN.{ℤ, pos, negsuc}
 use lib.ListN.{length}
 use Rattle.paper.specs.declared.Entry.{Entry}
 use Rattle.paper.specs.declared.Entry.the-variants as entry
 use Rattle.paper.specs.declared.CentreOfGravity.{CentreOfGravity}
 use Rattle.paper.specs.declared.Written.{Written}
-use Rattle.paper.specs.Placard.{feed}
+use Rattle.paper.specs.Placard.{feed, hyphen, point}
 use Rattle.paper.specs.Answers.{centreAnswer, writtenBy}
 use Rattle.paper.specs.Refusals.{firstNumber, _when_}
 use Rattle.numerals.specs.Numerals.{decimal, numeral}
@@ -24,15 +26,26 @@ momentText = 32 ∷ 109 ∷ 111 ∷ 109 ∷ 101 ∷ 110 ∷ 116 ∷ 32 ∷ []
 abbrev pub centreText : List ℕ
 centreText = 32 ∷ 99 ∷ 101 ∷ 110 ∷ 116 ∷ 114 ∷ 101 ∷ 32 ∷ []
 
+-- half grams in grams, with ".5" behind where there is a half
+unfoldable pub halves : ℕ → List ℕ
+halves n = decimal (n / 2) ++ cond (eqb (n % 2) 1) (point ∷ 53 ∷ []) []
+
+-- the same with a sign: a hyphen in front of what is below 0
+unfoldable pub signedHalves : ℤ → List ℕ
+signedHalves (pos n) = halves n
+signedHalves (negsuc n) = hyphen ∷ halves (suc n)
+
 -- a comment's line: total, moment and centre of gravity
 unfoldable pub comment : CentreOfGravity → List ℕ
-comment c = totalText ++ decimal (c .total) ++ momentText ++ numeral (c .moment) ++ centreText ++ numeral (c .centre) ++ feed ∷ []
+comment c =
+    totalText ++ halves (c .total) ++ momentText ++ signedHalves (c .moment) ++ centreText ++ numeral (c .centre) ++ feed ∷ []
 
 -- what follows an entry's line, where a list that ends with the entry comes to c
 unfoldable pub remark : CentreOfGravity → Entry → List ℕ
 remark c (entry.Weighing w) = comment c
 remark c (entry.Sheet s) = []
 remark c (entry.Change x) = comment c
+remark c (entry.Paired x) = comment c
 
 -- the lines of such an entry
 unfoldable pub linesOf : CentreOfGravity → Entry → List ℕ

@@ -4,29 +4,45 @@ use judge::Standing;
 use paper::CAPACITY;
 use paper::CentreOfGravity;
 use paper::Entry;
+use paper::Weight;
 use paper::Written;
 use record::Record;
 use wording::put_bytes;
 ghost use mathlib.Core.Path.{_≡_};
 ghost use Prim.Native.Nat.{_+_, _≤_};
-ghost use mathlib.Core.List.{_++_};
 ghost use lib.ListN.{length};
 ghost use Rattle.laws.specs.Written.{written};
-ghost use Rattle.numerals.specs.Numerals.{numeral};
 ghost use Rattle.values.specs.Places.{Readable};
 ghost use Rattle.record.specs.Held.{heldBy};
-ghost use Rattle.listing.specs.Listings.{comment, remark, linesOf, listing, listedAnswer};
+ghost use Rattle.listing.specs.Listings.{halves, signedHalves, comment, remark, linesOf, listing, listedAnswer};
 
-// Room for every listing: 64 entries, each with its comment of at most 426 bytes.
-pub const LONGEST: usize = 27264;
+// Room for every listing: 64 entries, each with its comment of at most 430 bytes.
+pub const LONGEST: usize = 27520;
 
-// A number behind its label. The answer is the place behind it.
-fn put_labelled(out: &mut [u8], at: usize, label: &[u8], x: i64) -> usize
-    requires { ⌜ at + length (now label ++ numeral x) ≤ length (now out) ⌝ }
-    ensures { λ r. ⌜ (r ≡ at + length (now (label .entry) ++ numeral x)) × (now (out .exit) ≡ written (now (out .entry)) at (now (label .entry) ++ numeral x)) ⌝ }
+// Half grams in grams, with `.5` behind where there is a half. The answer is the place behind them.
+fn put_halves(out: &mut [u8], at: usize, n: u64) -> usize
+    requires { ⌜ at + length (halves n) ≤ length (now out) ⌝ }
+    ensures { λ r. ⌜ (r ≡ at + length (halves n)) × (now (out .exit) ≡ written (now (out .entry)) at (halves n)) ⌝ }
 {
-    let from = put_bytes(out, at, label);
-    numerals::put_number(out, from, x)
+    let end = numerals::put_size(out, at, n / Weight::HALVES);
+    if n % Weight::HALVES == 1 {
+        put_bytes(out, end, b".5")
+    } else {
+        end
+    }
+}
+
+// The same with a minus in front of what is below 0.
+fn put_signed_halves(out: &mut [u8], at: usize, x: i64) -> usize
+    requires { ⌜ at + length (signedHalves x) ≤ length (now out) ⌝ }
+    ensures { λ r. ⌜ (r ≡ at + length (signedHalves x)) × (now (out .exit) ≡ written (now (out .entry)) at (signedHalves x)) ⌝ }
+{
+    if x < 0 {
+        out[at] = b'-';
+        put_halves(out, at + 1, laws::under(x) + 1)
+    } else {
+        put_halves(out, at, laws::size(x))
+    }
 }
 
 // A comment's line. The answer is the place behind it.
@@ -34,12 +50,14 @@ fn put_comment(out: &mut [u8], at: usize, c: CentreOfGravity) -> usize
     requires { ⌜ at + length (comment c) ≤ length (now out) ⌝ }
     ensures { λ r. ⌜ (r ≡ at + length (comment c)) × (now (out .exit) ≡ written (now (out .entry)) at (comment c)) ⌝ }
 {
-    let total = put_bytes(out, at, b"# total ");
-    let moment = numerals::put_size(out, total, c.total);
-    let centre = put_labelled(out, moment, b" moment ", c.moment);
-    let end = put_labelled(out, centre, b" centre ", c.centre);
-    out[end] = b'\n';
-    end + 1
+    let mut to = put_bytes(out, at, b"# total ");
+    to = put_halves(out, to, c.total);
+    to = put_bytes(out, to, b" moment ");
+    to = put_signed_halves(out, to, c.moment);
+    to = put_bytes(out, to, b" centre ");
+    to = numerals::put_number(out, to, c.centre);
+    out[to] = b'\n';
+    to + 1
 }
 
 // What follows the line of an entry, where the record up to it comes to `c`. The answer is the place behind it.
@@ -65,7 +83,7 @@ fn put_lines(out: &mut [u8], at: usize, c: CentreOfGravity, e: Entry) -> usize
 
 // The lines of the entries that a record holds. The answer is how many bytes they take.
 fn put_listing(out: &mut [u8], r: Record) -> usize
-    requires { ⌜ 27264 ≤ length (now out) ⌝ }
+    requires { ⌜ 27520 ≤ length (now out) ⌝ }
     ensures { λ n. ⌜ (n ≡ length (listing (heldBy r))) × (now (out .exit) ≡ written (now (out .entry)) 0 (listing (heldBy r))) ⌝ }
 {
     let mut standing = Standing::Unweighed;

@@ -18,7 +18,7 @@ slice-aggregate-put-listing : tie.Need-slice-aggregate-put-listing
 slice-aggregate-put-listing c = search needs
 
 put-listing-requires : tie.Need-put-listing-requires
-put-listing-requires c κs = room-in 27264 27264 0 (omega arith)
+put-listing-requires c κs = room-in 27520 27520 0 (omega arith)
 
 -- the list's listing is put
 module _ (c : tie.After-put-listing) where
