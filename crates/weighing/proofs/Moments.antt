@@ -7,7 +7,7 @@ use lib.IntN.{ℤ, pos, _+ℤ_, _-ℤ_}
 use Rattle.laws.specs.Z.{zs, Is, SidesOf, is-sides, is-nat, is-int, is-add, is-sub, is-mul}
 use Rattle.paper.specs.declared.Weighing.{Weighing}
 use Rattle.paper.specs.Record.{totalOf, momentOf}
-use Rattle.weighing.specs.declared.Moment.{Moment}
+use Rattle.weighing.specs.declared.Reading.{Reading}
 
 module _ (w : Weighing) (u d x y : ℕ) (e : SidesOf (w .a) u d) where
   -- what the contract says
@@ -67,13 +67,13 @@ module _ (w : Weighing) (u d x y : ℕ) (e : SidesOf (w .a) u d) where
         ))
 
 -- the sides of two moments added up
-pub added : (m k : Moment) {x y : ℤ} → pos (m .aft) -ℤ pos (m .fore) ≡ x → pos (k .aft) -ℤ pos (k .fore) ≡ y → pos (m .aft + k .aft) -ℤ pos (m .fore + k .fore) ≡ x +ℤ y
-added m k {x} {y} e f =
+pub sides-added : (r s : Reading) {x y : ℤ} → pos (r .aft) -ℤ pos (r .fore) ≡ x → pos (s .aft) -ℤ pos (s .fore) ≡ y → pos (r .aft + s .aft) -ℤ pos (r .fore + s .fore) ≡ x +ℤ y
+sides-added r s {x} {y} e f =
     omega (
       arith,
       zs,
-      is-sub (is-nat (m .aft)) (is-nat (m .fore)),
-      is-sub (is-nat (k .aft)) (is-nat (k .fore)),
-      is-sub (is-nat (m .aft + k .aft)) (is-nat (m .fore + k .fore)),
+      is-sub (is-nat (r .aft)) (is-nat (r .fore)),
+      is-sub (is-nat (s .aft)) (is-nat (s .fore)),
+      is-sub (is-nat (r .aft + s .aft)) (is-nat (r .fore + s .fore)),
       is-add (is-int x) (is-int y),
     )

@@ -1,5 +1,5 @@
 -- The condition of number 1 by method, each way by computing its tests, and what a weighing without it has. Assumes nothing.
-use mathlib.Core.Path.{_≡_, sym, _∙_}
+use mathlib.Core.Path.{_≡_, refl, sym, _∙_}
 use mathlib.Core.Bool.{Bool, true, false, not, _&&_, _||_, and-true, or-true, true≢false}
 use mathlib.Core.List.{[], _∷_}
 use Prim.Native.Nat.{ℕ, _+_, _-_, _≤_, _<_}
@@ -14,8 +14,9 @@ use Rattle.laws.specs.Z.{zs, goal-leZ, goal-nleZ, is-nat, is-sub}
 use Rattle.paper.proofs.Numbers.{no-first, no-other}
 use Rattle.paper.proofs.Units.{arm-range}
 use Rattle.paper.specs.declared.Weighing.{Weighing}
+use Rattle.paper.specs.declared.Paired.{Paired}
 use Rattle.paper.specs.Units.{between, isWeight, isArm}
-use Rattle.paper.specs.Record.{Readings, totalOf}
+use Rattle.paper.specs.Record.{Readings, paired, totalOf}
 use Rattle.paper.specs.Refusals.{badReading, badDistance, badPart, either, _when_, firstNumber, weighingFaults}
 
 -- a difference as a total
@@ -140,25 +141,43 @@ module _ (w : Weighing) (near : badDistance w ≡ false) where
   unfolding badDistance
   a-range = arm-range (w .a) (not-false _ (not-left (not (isArm (w .a))) (not (leb 1 (w .b) && leb (w .b) 2000000)) near))
 
--- two readings that get no number behind 9
+-- ---- two readings
+
+or-self : (b : Bool) → (b || b) ≡ b
+or-self true = refl
+or-self false = refl
+
+-- those of a paired weighing have the same distances
+pub same-distances : (x : Paired) → either badDistance (paired x) ≡ badDistance (paired x .first)
+unfolding badDistance
+same-distances x = or-self _
+
+-- they get no number behind 9
 module _ (x : Readings) (clear : firstNumber (weighingFaults x) ≡ 0) where
   behind-1 : firstNumber (2 when either badDistance x ∷ 3 when either badPart x ∷ []) ≡ 0
   unfolding weighingFaults
   behind-1 = no-other 1 (either badReading x) _ (omega arith) clear
 
-  behind-2 : firstNumber (3 when either badPart x ∷ []) ≡ 0
-  behind-2 = no-other 2 (either badDistance x) _ (omega arith) behind-1
-
-  -- neither reading has a condition that does not hold of either
-  neither : (q : Weighing → Bool) → either q x ≡ false → (q (x .first) ≡ false) × (q (x .second) ≡ false)
-  neither q e = (not-left (q (x .first)) (q (x .second)) e, not-right (q (x .first)) (q (x .second)) e)
-
-  pub reading-fine : (badReading (x .first) ≡ false) × (badReading (x .second) ≡ false)
+  no-reading : either badReading x ≡ false
   unfolding weighingFaults
-  reading-fine = neither badReading (no-first 1 (either badReading x) _ (omega arith) clear)
+  no-reading = no-first 1 (either badReading x) _ (omega arith) clear
 
-  pub distance-fine : (badDistance (x .first) ≡ false) × (badDistance (x .second) ≡ false)
-  distance-fine = neither badDistance (no-first 2 (either badDistance x) _ (omega arith) behind-1)
+  no-distance : either badDistance x ≡ false
+  no-distance = no-first 2 (either badDistance x) _ (omega arith) behind-1
 
-  pub n-fine : (badPart (x .first) ≡ false) × (badPart (x .second) ≡ false)
-  n-fine = neither badPart (no-first 3 (either badPart x) [] (omega arith) behind-2)
+  no-part : either badPart x ≡ false
+  no-part = no-first 3 (either badPart x) [] (omega arith) (no-other 2 (either badDistance x) _ (omega arith) behind-1)
+
+  -- so neither has a condition
+  abbrev Fine : Weighing → Type 0
+  Fine w = (badReading w ≡ false) × (badDistance w ≡ false) × (badPart w ≡ false)
+
+  pub first-fine : Fine (x .first)
+  first-fine = (not-left _ _ no-reading, not-left _ _ no-distance, not-left _ _ no-part)
+
+  pub second-fine : Fine (x .second)
+  second-fine = (
+    not-right (badReading (x .first)) _ no-reading,
+    not-right (badDistance (x .first)) _ no-distance,
+    not-right (badPart (x .first)) _ no-part,
+  )

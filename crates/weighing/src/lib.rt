@@ -13,7 +13,7 @@ ghost use lib.IntN.{pos, _-ℤ_};
 ghost use Rattle.paper.specs.Record as paper;
 ghost use Rattle.paper.specs.Refusals.{badReading, badDistance, badPart, weighingFaults, firstNumber};
 ghost use Rattle.weighing.specs.Moments.{twoProducts, InRange, Turns};
-ghost use Rattle.weighing.specs.Readings.{both};
+ghost use Rattle.weighing.specs.Readings.{both, Says, InGrams};
 ghost use Rattle.balance.specs.Balance.{plain, Bounded};
 
 // Number 1's condition of the readings in methods 1 and 2, where p is the total and q a part of it.
@@ -100,24 +100,6 @@ fn bad_nonlifting(w: Weighing) -> bool
     total(w) < w.n
 }
 
-// The number of refusal of two readings behind 9: by number, and not reading by reading.
-fn number_of(first: Weighing, second: Weighing) -> u64
-    ensures { λ r. ⌜ r ≡ firstNumber (weighingFaults (both first second)) ⌝ }
-{
-    let reading = bad_reading(first) | bad_reading(second);
-    let distance = bad_distance(first) | bad_distance(second);
-    if reading {
-        return 1;
-    }
-    if distance {
-        return 2;
-    }
-    if bad_nonlifting(first) | bad_nonlifting(second) {
-        return 3;
-    }
-    0
-}
-
 // The first reading of a paired weighing, as a plain one.
 fn first_of(x: Paired) -> Weighing
     ensures { λ r. ⌜ r ≡ paper.paired x .first ⌝ }
@@ -150,14 +132,37 @@ fn second_of(x: Paired) -> Weighing
 pub fn number(w: Weighing) -> u64
     ensures { λ r. ⌜ r ≡ firstNumber (weighingFaults (paper.alike w)) ⌝ }
 {
-    number_of(w, w)
+    let reading = bad_reading(w);
+    let distance = bad_distance(w);
+    if reading {
+        return 1;
+    }
+    if distance {
+        return 2;
+    }
+    if bad_nonlifting(w) {
+        return 3;
+    }
+    0
 }
 
-// That of a paired weighing.
+// That of a paired weighing: by number, and not reading by reading. Both readings have the same distances.
 pub fn paired_number(x: Paired) -> u64
     ensures { λ r. ⌜ r ≡ firstNumber (weighingFaults (paper.paired x)) ⌝ }
 {
-    number_of(first_of(x), second_of(x))
+    let first = first_of(x);
+    let second = second_of(x);
+    let distances = bad_distance(first);
+    if bad_reading(first) | bad_reading(second) {
+        return 1;
+    }
+    if distances {
+        return 2;
+    }
+    if bad_nonlifting(first) | bad_nonlifting(second) {
+        return 3;
+    }
+    0
 }
 
 // A moment as what turns aft and what turns forward.
@@ -228,17 +233,37 @@ fn moment_of(w: Weighing) -> Moment
     held_down(w, a)
 }
 
-// Two readings added up: their G, M and n in grams give those of the glider in half grams.
-fn sum(first: Weighing, second: Weighing) -> Balance
-    requires { ⌜ firstNumber (weighingFaults (both first second)) ≡ 0 ⌝ }
-    ensures { λ r. ⌜ (plain r ≡ paper.weighed (both first second)) × Bounded 1 r ⌝ }
+// What one reading says: G, M and n in grams, with no sign.
+pub struct Reading {
+    pub total: u64,
+    pub aft: u64,
+    pub fore: u64,
+    pub nonlifting: u64,
+}
+
+// A reading that has no condition of refusal.
+fn reckoned(w: Weighing) -> Reading
+    requires { ⌜ (badReading w ≡ false) × (badDistance w ≡ false) × (badPart w ≡ false) ⌝ }
+    ensures { λ r. ⌜ Says w r × InGrams r ⌝ }
 {
-    let m = moment_of(first);
-    let k = moment_of(second);
-    let total = total(first) + total(second);
-    let aft = m.aft + k.aft;
-    let fore = m.fore + k.fore;
-    let nonlifting = first.n + second.n;
+    let m = moment_of(w);
+    Reading {
+        total: total(w),
+        aft: m.aft,
+        fore: m.fore,
+        nonlifting: w.n,
+    }
+}
+
+// Two readings added up: grams of each give half grams of the glider.
+fn added(first: Reading, second: Reading) -> Balance
+    requires { ⌜ InGrams first × InGrams second ⌝ }
+    ensures { λ r. ⌜ ((v w : _) → Says v first → Says w second → plain r ≡ paper.weighed (both v w)) × Bounded 1 r ⌝ }
+{
+    let total = first.total + second.total;
+    let aft = first.aft + second.aft;
+    let fore = first.fore + second.fore;
+    let nonlifting = first.nonlifting + second.nonlifting;
     Balance {
         total,
         aft,
@@ -252,7 +277,8 @@ pub fn weighed(w: Weighing) -> Balance
     requires { ⌜ firstNumber (weighingFaults (paper.alike w)) ≡ 0 ⌝ }
     ensures { λ r. ⌜ (plain r ≡ paper.weighed (paper.alike w)) × Bounded 1 r ⌝ }
 {
-    sum(w, w)
+    let r = reckoned(w);
+    added(r, r)
 }
 
 // Those of a paired weighing.
@@ -260,5 +286,5 @@ pub fn paired(x: Paired) -> Balance
     requires { ⌜ firstNumber (weighingFaults (paper.paired x)) ≡ 0 ⌝ }
     ensures { λ r. ⌜ (plain r ≡ paper.weighed (paper.paired x)) × Bounded 1 r ⌝ }
 {
-    sum(first_of(x), second_of(x))
+    added(reckoned(first_of(x)), reckoned(second_of(x)))
 }
