@@ -10,12 +10,11 @@ use native.Mathlib.Omega.{arith}
 use lib.Dec.{eqb}
 use lib.ListN.{length}
 use borrow.Author.Tests.{lt-ltb, le-ltb, eq-eqb, ne-eqb}
-use Rattle.paper.specs.declared.Weighing.{Weighing}
 use Rattle.paper.specs.declared.Sheet.{Sheet}
 use Rattle.paper.specs.declared.Change.{Change}
 use Rattle.paper.specs.declared.Entry.{Entry}
 use Rattle.paper.specs.declared.Placard.{Placard}
-use Rattle.paper.specs.Record.{Balance, weighed, changedBy, lastWeighing, balanceOf, sheetOf}
+use Rattle.paper.specs.Record.{Balance, Readings, weighed, changedBy, lastWeighing, balanceOf, sheetOf}
 use Rattle.paper.specs.Rows.{rowCount}
 use Rattle.paper.specs.Placard.{text, textLength, blankCount}
 use Rattle.paper.specs.Refusals.{firstNumber, isNone, placardTooLong, placardNumber}
@@ -38,7 +37,7 @@ no-weighing : (es : List Entry) → balanceOf es ≡ none → weighingStands es 
 unfolding balanceOf weighingStands isNone
 no-weighing es = by (lastWeighing es)
   where
-    by : (o : Option (Weighing × List Change)) → Option·map (λ (x : Weighing × List Change). changedBy (weighed (x .0)) (x .1)) o ≡ none → not (isNone o) ≡ false
+    by : (o : Option (Readings × List Change)) → Option·map (λ (x : Readings × List Change). changedBy (weighed (x .0)) (x .1)) o ≡ none → not (isNone o) ≡ false
     by none e = refl
     by (some x) e = cc
 
@@ -46,7 +45,7 @@ a-weighing : (es : List Entry) (b : Balance) → balanceOf es ≡ some b → wei
 unfolding balanceOf weighingStands isNone
 a-weighing es b = by (lastWeighing es)
   where
-    by : (o : Option (Weighing × List Change)) → Option·map (λ (x : Weighing × List Change). changedBy (weighed (x .0)) (x .1)) o ≡ some b → not (isNone o) ≡ true
+    by : (o : Option (Readings × List Change)) → Option·map (λ (x : Readings × List Change). changedBy (weighed (x .0)) (x .1)) o ≡ some b → not (isNone o) ≡ true
     by none e = cc
     by (some x) e = refl
 

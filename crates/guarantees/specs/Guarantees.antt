@@ -9,7 +9,7 @@ use mathlib.Core.Path.{_≡_}
 use mathlib.Core.Bool.{true}
 use mathlib.Core.List.{List}
 use Prim.Native.Nat.{ℕ, _≤_}
-use lib.ListN.{length, take}
+use lib.ListN.{length, getD, set, take}
 use denote.Ref.{RefT, now}
 use Rattle.laws.specs.Lists.{Each}
 use Rattle.laws.specs.Splits.{split}
@@ -17,10 +17,11 @@ use Rattle.paper.specs.declared.Entry.{Entry}
 use Rattle.paper.specs.declared.Placard.{Placard}
 use Rattle.paper.specs.declared.Written.{Written}
 use Rattle.paper.specs.Placard.{feed}
-use Rattle.paper.specs.File.{fileBytes}
+use Rattle.paper.specs.File.{fileAs, fileBytes}
 use Rattle.paper.specs.Refusals.{accepted}
 use Rattle.paper.specs.Answers.{over}
 use Rattle.paper.specs.Journal.{Call, journal, numbers}
+use Rattle.format.specs.Files.{Allows}
 use Rattle.record.specs.declared.Record.{Record}
 use Rattle.record.specs.declared.Kept.{Kept}
 use Rattle.record.specs.Held.{recordOf, heldBy}
@@ -28,7 +29,7 @@ use Rattle.file.specs.Longest as file
 use Rattle.file.proofs.longest.Reads as file-longest
 use Rattle.file.proofs.write.Reads as write
 use Rattle.file.proofs.read.Reads as read
-use Rattle.file.proofs.RoundTrips.{accepts-files, accepts-only-files, read-then-written}
+use Rattle.file.proofs.RoundTrips as trips
 use Rattle.plate.specs.Longest as plate
 use Rattle.plate.proofs.longest.Reads as plate-longest
 use Rattle.plate.proofs.placard.Reads as placard
@@ -83,20 +84,28 @@ pub written-then-read : {calls : List Call} {r : Record} {answers : List ℕ} �
     → k ≡ record { number = 0; log = r }
 written-then-read = records.saved-and-read
 
--- Bytes that reading accepts are written again as they were.
+-- A file that reading accepts, of version 1 or 2, is written again with the version byte, its fifth, 2 and every other byte as it
+-- was.
+pub read-then-renewed : (q : Record) (κs : _) (i i′ : _) (k : Kept) → read.Post κs (q, (i, tt)) k (q, (i′, tt)) → k .number ≡ 0
+    → (λs : _) (o o′ : _) (a : Written) → write.Post λs (k .log, (o, tt)) a (k .log, (o′, tt)) → length (now i) ≤ length (now o)
+    → (a ≡ record { number = 0; length = length (now i) }) × (now o′ ≡ over (set (now i) 4 2) (now o))
+read-then-renewed = trips.read-then-renewed
+
+-- So a version 2 file is written again as it was.
 pub read-then-written-again : (q : Record) (κs : _) (i i′ : _) (k : Kept) → read.Post κs (q, (i, tt)) k (q, (i′, tt)) → k .number ≡ 0
     → (λs : _) (o o′ : _) (a : Written) → write.Post λs (k .log, (o, tt)) a (k .log, (o′, tt)) → length (now i) ≤ length (now o)
-    → (a ≡ record { number = 0; length = length (now i) }) × (now o′ ≡ over (now i) (now o))
-read-then-written-again = read-then-written
+    → getD (now i) 4 0 ≡ 2 → (a ≡ record { number = 0; length = length (now i) }) × (now o′ ≡ over (now i) (now o))
+read-then-written-again = trips.read-then-written
 
--- Reading accepts the files of the lists that accepted calls give, and nothing else.
+-- Reading accepts the files of the lists that accepted calls give, in each version that has their kinds (`Allows`: version 2, and
+-- version 1 where there is no paired weighing), and nothing else.
 pub every-file-accepted : (q : Record) (κs : _) (i i′ : _) (k : Kept) → read.Post κs (q, (i, tt)) k (q, (i′, tt))
-    → (es : List Entry) → accepted es ≡ true → now i ≡ fileBytes es → k ≡ record { number = 0; log = recordOf es }
-every-file-accepted = accepts-files
+    → (v : ℕ) (es : List Entry) → Allows v es → accepted es ≡ true → now i ≡ fileAs v es → k ≡ record { number = 0; log = recordOf es }
+every-file-accepted = trips.accepts-files
 
 pub only-files-accepted : (q : Record) (κs : _) (i i′ : _) (k : Kept) → read.Post κs (q, (i, tt)) k (q, (i′, tt))
-    → k .number ≡ 0 → (es : List Entry) × (accepted es ≡ true) × (now i ≡ fileBytes es) × (k .log ≡ recordOf es)
-only-files-accepted = accepts-only-files
+    → k .number ≡ 0 → (v : ℕ) × (es : List Entry) × Allows v es × (accepted es ≡ true) × (now i ≡ fileAs v es) × (k .log ≡ recordOf es)
+only-files-accepted = trips.accepts-only-files
 
 -- ---- logbooks
 
