@@ -16,16 +16,7 @@ pub fn weighing_of(m: u64, p: u64, q: u64, a: i64, b: u64, n: u64) -> Entry
 }
 
 // A paired weighing.
-pub fn paired_of(
-    m: u64,
-    p: u64,
-    q: u64,
-    p2: u64,
-    q2: u64,
-    a: i64,
-    b: u64,
-    n: u64,
-) -> Entry
+pub fn paired_of(m: u64, p: u64, q: u64, p2: u64, q2: u64, a: i64, b: u64, n: u64) -> Entry
     ensures { λ r. ⌜ r ≡ entry.Paired (record { m = m; p = p; q = q; p2 = p2; q2 = q2; a = a; b = b; n = n }) ⌝ }
 {
     Entry::Paired(Paired {

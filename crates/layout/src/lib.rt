@@ -131,27 +131,25 @@ pub fn kind_of(e: Entry) -> u8
     }
 }
 
+// The words of its fields.
+fn words_in(e: Entry) -> [u64; FIELDS]
+    ensures { λ r. ⌜ r ≡ padded (wordsOf e) ⌝ }
+{
+    match e {
+        Entry::Weighing(w) => weighing_words(w),
+        Entry::Sheet(s) => sheet_words(s),
+        Entry::Change(x) => change_words(x),
+        Entry::Paired(x) => paired_words(x),
+    }
+}
+
 // An entry as the file has it.
 pub fn fields_of(e: Entry) -> Fields
     ensures { λ r. ⌜ r ≡ fieldsIn e ⌝ }
 {
-    match e {
-        Entry::Weighing(w) => Fields {
-            kind: 1,
-            words: weighing_words(w),
-        },
-        Entry::Sheet(s) => Fields {
-            kind: 2,
-            words: sheet_words(s),
-        },
-        Entry::Change(x) => Fields {
-            kind: 3,
-            words: change_words(x),
-        },
-        Entry::Paired(x) => Fields {
-            kind: 4,
-            words: paired_words(x),
-        },
+    Fields {
+        kind: kind_of(e),
+        words: words_in(e),
     }
 }
 
