@@ -1,6 +1,6 @@
 """What the program `cases` prints, by the oracle's reckoning. A line is described in the program's src/main.rt."""
 
-from oracle import Change, Sheet, Weighing, add, centre_of_gravity, undo
+from oracle import Change, Paired, Sheet, Weighing, add, centre_of_gravity, read_balance, readings, undo
 
 MOST_U64 = 2**64 - 1
 LEAST_I64, MOST_I64 = -(2**63), 2**63 - 1
@@ -10,6 +10,7 @@ WEIGHING = Weighing(m=1, p=300000, q=30000, a=10000, b=500000, n=100000)
 FRONT, REAR, WATER = (-47500, 55000, 110000, 1000), (10000, 100000, 50000), (30000, 100000, 50000)
 SHEET = Sheet(25000, 42500, 380000, 450000, 240000, *FRONT, *REAR, *WATER)
 SECOND = Weighing(m=3, p=355, q=90, a=50, b=13350, n=0)
+PAIRED = Paired(m=1, p=300000, q=30000, p2=300001, q2=30010, a=10000, b=500000, n=100000)
 
 FRESH = ()
 BACK = None
@@ -17,6 +18,15 @@ BACK = None
 
 def weighing(**fields):
     return WEIGHING._replace(**fields)
+
+
+def paired(**fields):
+    return PAIRED._replace(**fields)
+
+
+def as_pair(w, **fields):
+    """The pair of a weighing with itself, or with another reading."""
+    return Paired(w.m, w.p, w.q, w.p, w.q, w.a, w.b, w.n)._replace(**fields)
 
 
 def sheet(**fields):
@@ -69,18 +79,21 @@ def repeated(journal, step):
 # Worked weighings and rounding.
 
 
+# A to F with their figures, total and moment in half grams.
+A = Weighing(1, 310000, 29900, 9500, 550000, 0)
+FIGURES = {
+    "A and B": (A, (0, 620000, 38780000000, 62548)),
+    "C": (Weighing(2, 310000, 280100, -9500, 550000, 0), (0, 620000, 38780000000, 62548)),
+    "D": (Weighing(3, 355, 90, 50, 13350, 0), (0, 890, 2358500, 2650)),
+    "E": (Weighing(4, 460, 15, 3000, 10300, 0), (0, 890, 2361000, 2653)),
+    "F": (Weighing(1, 2, 1, 0, 50001, 0), (0, 4, 100002, 25001)),
+    "F, a -50001": (Weighing(1, 2, 1, -50001, 50001, 0), (0, 4, -100002, -25000)),
+}
+
+
 def worked():
     """A to F, held to their figures as well, and the entries of G to J."""
-    a = Weighing(1, 310000, 29900, 9500, 550000, 0)
-    figures = {
-        "A and B": (a, (0, 310000, 19390000000, 62548)),
-        "C": (Weighing(2, 310000, 280100, -9500, 550000, 0), (0, 310000, 19390000000, 62548)),
-        "D": (Weighing(3, 355, 90, 50, 13350, 0), (0, 445, 1179250, 2650)),
-        "E": (Weighing(4, 460, 15, 3000, 10300, 0), (0, 445, 1180500, 2653)),
-        "F": (Weighing(1, 2, 1, 0, 50001, 0), (0, 2, 50001, 25001)),
-        "F, a -50001": (Weighing(1, 2, 1, -50001, 50001, 0), (0, 2, -50001, -25000)),
-    }
-    for label, (entry, figure) in figures.items():
+    for label, (entry, figure) in FIGURES.items():
         assert centre_of_gravity((entry,)) == figure, label
         answered(label, add(FRESH, entry))
     g = Weighing(1, 288000, 0, 63334, 500000, 140000)
@@ -90,7 +103,20 @@ def worked():
     answered("G, sheet", add((g,), g_sheet))
     answered("H, change", add((g, g_sheet), Change(4500, -100000, 1)))
     answered("I, sheet", add((g,), g_sheet._replace(front_arm=41625)))
-    answered("J, sheet", add((a,), j_sheet))
+    answered("J, sheet", add((A,), j_sheet))
+
+
+# The greatest and the least moment by each method.
+EXTREMES = {
+    f"method {m}, {label}": Weighing(m, *reading, 2000000, 0)
+    for m, greatest, least in (
+        (1, (2000000, 2000000, 2000000), (2000000, 0, -2000000)),
+        (2, (2000000, 0, -2000000), (2000000, 2000000, 2000000)),
+        (3, (0, 2000000, -2000000), (2000000, 0, 2000000)),
+        (4, (2000000, 0, 2000000), (2000000, 1999999, -2000000)),
+    )
+    for label, reading in (("greatest", greatest), ("least", least))
+}
 
 
 def rounding():
@@ -103,18 +129,33 @@ def rounding():
 
 
 def moments():
-    most = 2000000
-    for m, greatest, least in (
-        (1, (most, most, most), (most, 0, -most)),
-        (2, (most, 0, -most), (most, most, most)),
-        (3, (0, most, -most), (most, 0, most)),
-        (4, (most, 0, most), (most, most - 1, -most)),
-    ):
-        answered(f"method {m}, greatest", add(FRESH, Weighing(m, *greatest, most, 0)))
-        answered(f"method {m}, least", add(FRESH, Weighing(m, *least, most, 0)))
+    for label, entry in EXTREMES.items():
+        answered(label, add(FRESH, entry))
 
 
-# Weighings of a fresh record.
+# Weighings of a fresh record. The readings at their bounds: where p is the total, where the total is the sum, and where it is
+# the difference.
+
+METHODS = (0, 1, 2, 3, 4, 5, MOST_U64)
+PART_OF_TOTAL = (
+    *(("p 0", 0, 0), ("p 1", 1, 0), ("p 2000000", 2000000, 30000), ("p 2000001", 2000001, 30000)),
+    *(("q 0", 300000, 0), ("q = p", 300000, 300000), ("q = p + 1", 300000, 300001)),
+    *(("q 2000000", 2000000, 2000000), ("q 2000001", 2000000, 2000001)),
+    ("p and q 2000001", 2000001, 2000001),
+)
+TOTAL_IS_SUM = (
+    *(("G 0", 0, 0), ("G 1, all in front", 1, 0), ("G 1, all behind", 0, 1)),
+    *(("G 2000000", 1000000, 1000000), ("G 2000001", 1000000, 1000001), ("G 4000000", 2000000, 2000000)),
+    *(("p 2000000", 2000000, 0), ("p 2000001", 2000001, 0)),
+    *(("q 2000000", 0, 2000000), ("q 2000001", 0, 2000001)),
+)
+TOTAL_IS_DIFFERENCE = (
+    *(("p and q 0", 0, 0), ("G 0", 300000, 300000), ("G 1", 300001, 300000), ("G -1", 300000, 300001)),
+    *(("G 2000000", 2000000, 0), ("G 2000001", 2000001, 0), ("p 2000001, G 2000000", 2000001, 1)),
+    *(("q 1999999, G 1", 2000000, 1999999), ("q 2000000, G 0", 2000000, 2000000)),
+    *(("q 2000001, G 1", 2000002, 2000001), ("q 2000001, G -1", 2000000, 2000001)),
+)
+BY_METHOD = ((1, PART_OF_TOTAL), (2, PART_OF_TOTAL), (3, TOTAL_IS_SUM), (4, TOTAL_IS_DIFFERENCE))
 
 
 def weighing_case(label, **fields):
@@ -122,28 +163,10 @@ def weighing_case(label, **fields):
     answered(f"weighing by method {entry.m}, {label}", add(FRESH, entry))
 
 
-def readings():
-    for m in (0, 1, 2, 3, 4, 5, MOST_U64):
+def weighings():
+    for m in METHODS:
         weighing_case("ordinary", m=m, n=0)
-    part_of_total = (
-        *(("p 0", 0, 0), ("p 1", 1, 0), ("p 2000000", 2000000, 30000), ("p 2000001", 2000001, 30000)),
-        *(("q 0", 300000, 0), ("q = p", 300000, 300000), ("q = p + 1", 300000, 300001)),
-        *(("q 2000000", 2000000, 2000000), ("q 2000001", 2000000, 2000001)),
-        ("p and q 2000001", 2000001, 2000001),
-    )
-    total_is_sum = (
-        *(("G 0", 0, 0), ("G 1, all in front", 1, 0), ("G 1, all behind", 0, 1)),
-        *(("G 2000000", 1000000, 1000000), ("G 2000001", 1000000, 1000001), ("G 4000000", 2000000, 2000000)),
-        *(("p 2000000", 2000000, 0), ("p 2000001", 2000001, 0)),
-        *(("q 2000000", 0, 2000000), ("q 2000001", 0, 2000001)),
-    )
-    total_is_difference = (
-        *(("p and q 0", 0, 0), ("G 0", 300000, 300000), ("G 1", 300001, 300000), ("G -1", 300000, 300001)),
-        *(("G 2000000", 2000000, 0), ("G 2000001", 2000001, 0), ("p 2000001, G 2000000", 2000001, 1)),
-        *(("q 1999999, G 1", 2000000, 1999999), ("q 2000000, G 0", 2000000, 2000000)),
-        *(("q 2000001, G 1", 2000002, 2000001), ("q 2000001, G -1", 2000000, 2000001)),
-    )
-    for m, cases in ((1, part_of_total), (2, part_of_total), (3, total_is_sum), (4, total_is_difference)):
+    for m, cases in BY_METHOD:
         for label, p, q in cases:
             weighing_case(label, m=m, p=p, q=q, n=0)
 
@@ -448,11 +471,134 @@ def refused():
     in_turn("in turn", weighed(), steps)
 
 
+# Paired weighings.
+
+
+def pairs_of_equals():
+    """They answer as the plain weighings do."""
+    plain = {label: entry for label, (entry, _) in FIGURES.items()} | EXTREMES
+    for label, entry in plain.items():
+        assert centre_of_gravity((as_pair(entry),)) == centre_of_gravity((entry,)), label
+        answered(f"pair of equals, {label}", add(FRESH, as_pair(entry)))
+
+
+def pair_rounding():
+    """A moment of (p + p')·a + q + q' over a total of p + p'."""
+    halves = ((1, 1, 1, 0, 0), (1, 0, 1, 1, -1), (1, 1, 1, 0, 1), (1, 0, 1, 1, -2))
+    thirds = ((1, 1, 2, 0, 0), (2, 1, 1, 1, 0), (1, 0, 2, 2, -1), (2, 0, 1, 1, -1), (1, 0, 2, 0, 0))
+    large = ((999999, 1000000, 0), (1000000, 1000000, 0), (0, 1, -1), (1000000, 1000000, -1), (999999, 1000000, -1))
+    for p, q, p2, q2, a in (*halves, *thirds, *((2000000, q, 1999999, q2, a) for q, q2, a in large)):
+        label = f"pair, centre {(p + p2) * a + q + q2}/{p + p2}"
+        answered(label, add(FRESH, Paired(1, p, q, p2, q2, a, 1, 0)))
+
+
+def pair_case(label, **fields):
+    entry = paired(**fields)
+    answered(f"pair by method {entry.m}, {label}", add(FRESH, entry))
+
+
+def pair_readings():
+    """Each bound of either reading, beside an ordinary one."""
+    for m in METHODS:
+        pair_case("ordinary", m=m, n=0)
+    for m, cases in BY_METHOD:
+        for label, p, q in cases:
+            pair_case(f"first {label}", m=m, p=p, q=q, n=0)
+            pair_case(f"second {label}", m=m, p2=p, q2=q, n=0)
+
+
+def pair_distances():
+    for a in (-2000001, -2000000, 0, 2000000, 2000001):
+        pair_case(f"a {a}", a=a)
+    for b in (0, 1, 2000000, 2000001):
+        pair_case(f"b {b}", b=b)
+    for label, field in (("p", "p"), ("q", "q"), ("p'", "p2"), ("q'", "q2")):
+        pair_case(f"{label} at most", **{field: MOST_U64}, n=0)
+    pair_case("all readings at most", p=MOST_U64, q=MOST_U64, p2=MOST_U64, q2=MOST_U64, n=0)
+    pair_case("a at least", a=LEAST_I64)
+    pair_case("a at most", a=MOST_I64)
+    pair_case("b at most", b=MOST_U64)
+    pair_case("n at most", n=MOST_U64)
+
+
+def pair_shares():
+    """n at the smaller total and one above, whichever reading has it."""
+    for m in (1, 2, 3, 4):
+        for label, turned in (("", {}), (", turned round", {"p": 300001, "q": 30010, "p2": 300000, "q2": 30000})):
+            smaller, greater = sorted(read_balance(w).total for w in readings(paired(m=m, **turned)))
+            pair_case(f"n = smaller G{label}", m=m, n=smaller, **turned)
+            pair_case(f"n = smaller G + 1{label}", m=m, n=smaller + 1, **turned)
+            pair_case(f"n = greater G{label}", m=m, n=greater, **turned)
+    equals = as_pair(WEIGHING)
+    answered("pair of equals, n = G", add(FRESH, equals._replace(n=300000)))
+    answered("pair of equals, n = G + 1", add(FRESH, equals._replace(n=300001)))
+
+
+def pair_orders():
+    """By number, and not reading by reading: 1 of the second counts before 3 of the first."""
+    full = filled(weighed())
+    first, second, arm = {"p": 0, "q": 0}, {"p2": 0, "q2": 0}, {"a": 2000001}
+    for label, journal, entry in (
+        ("none", FRESH, paired()),
+        ("full", full, paired()),
+        ("full and first reading", full, paired(**first)),
+        ("full and second reading", full, paired(**second)),
+        ("full and arm", full, paired(**arm)),
+        ("full and non-lifting", full, paired(n=300001)),
+        ("first reading and arm", FRESH, paired(**first, **arm)),
+        ("second reading and arm", FRESH, paired(**second, **arm)),
+        ("both readings", FRESH, paired(**first, **second)),
+        ("first reading and second's non-lifting", FRESH, paired(**first, n=300002)),
+        ("second reading and first's non-lifting", FRESH, paired(**second, p=99999)),
+        ("arm and first's non-lifting", FRESH, paired(**arm, p=99999)),
+        ("arm and second's non-lifting", FRESH, paired(**arm, p2=99999)),
+        ("first's non-lifting", FRESH, paired(p=99999)),
+        ("second's non-lifting", FRESH, paired(p2=99999)),
+        ("both non-lifting", FRESH, paired(n=300002)),
+        ("all but full", FRESH, paired(**second, **arm, p=99999)),
+        ("all", full, paired(**second, **arm, p=99999)),
+    ):
+        answered(f"order of a pair, {label}", add(journal, entry))
+
+
+def totals(first, second, n=0):
+    """A pair of these totals at the datum."""
+    return (Paired(1, first, 0, second, 0, 0, 1, n),)
+
+
+def pair_changes():
+    """What is left is counted in half grams: 2 are a gram, and 1 is none."""
+    assert add(totals(3, 4), Change(-3, 0, 0))[0] == 6 and add(totals(3, 3), Change(-2, 0, 0))[0] == 0
+    for first, second, c in (
+        *((3, 4, -2), (3, 4, -3), (3, 4, -4), (3, 3, -2), (3, 3, -3), (1, 2, -1), (1, 2, 1)),
+        *((1999999, 2000000, 1), (1999999, 1999999, 1), (1999998, 1999999, 1), (1999998, 1999999, 2)),
+    ):
+        answered(f"change, pair of {first} and {second}, c {c}", add(totals(first, second), Change(c, 5000, 0)))
+    for n, c, flag in (
+        *((4, -1, 0), (4, -1, 1), (4, -3, 1), (4, -4, 1), (3, -1, 0), (3, -2, 0), (1, -1, 1), (1, -2, 1)),
+        *((4, 1, 0), (4, 1, 1), (0, -1, 1), (0, 1, 1)),
+    ):
+        answered(f"change, pair of 4 and 5, n {n}, c {c}, flag {flag}", add(totals(4, 5, n), Change(c, 5000, flag)))
+
+
+def pair_lists():
+    steps = [("a pair", PAIRED), ("change of it", Change(1000, 2000, 1)), ("a plain weighing", SECOND)]
+    steps += [("change of that", Change(55, -700, 0)), ("sheet", SHEET), ("another pair", as_pair(SECOND, q2=91))]
+    steps += [("change of the other", Change(-100, 900, 0)), ("first reading", paired(p=0, q=0))]
+    steps += [("second reading", paired(p2=0, q2=0)), ("arm", paired(b=0)), ("non-lifting", paired(n=300001))]
+    steps += 7 * [("taken back", BACK)] + [("nothing to take back", BACK), ("weighed again", PAIRED)]
+    in_turn("pairs", FRESH, steps)
+    journal = answered("64 entries, 63 sheets", repeated(FRESH, SHEET))
+    steps = [("the pair", PAIRED), ("another pair", PAIRED), ("a change", Change(1, 0, 0)), ("taken back", BACK)]
+    steps += [("refused", paired(n=300001)), ("the pair again", PAIRED)]
+    in_turn("64 entries", journal, steps)
+
+
 def report():
     worked()
     rounding()
     moments()
-    readings()
+    weighings()
     for m, total in ((1, 300000), (2, 300000), (3, 330000), (4, 270000)):
         distances(m, total)
     sheet_case("ordinary")
@@ -468,3 +614,11 @@ def report():
     full_lists()
     widest()
     refused()
+    pairs_of_equals()
+    pair_rounding()
+    pair_readings()
+    pair_distances()
+    pair_shares()
+    pair_orders()
+    pair_changes()
+    pair_lists()

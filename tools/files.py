@@ -1,7 +1,7 @@
 """What the program `files` takes and prints, by the oracle's reckoning. The lines of both are described in the program's
 src/main.rt."""
 
-from oracle import Change, Sheet, Weighing, add, centre_of_gravity, entry_bytes, file_of, read, width, write
+from oracle import VERSION, Change, Paired, Sheet, Weighing, add, centre_of_gravity, entry_bytes, file_of, read, width, write
 
 FRESH = ()
 MOST = 2000000
@@ -11,19 +11,22 @@ ARMS = (-MOST - 1, -MOST, 0, MOST, MOST + 1, -(2**31))
 # Entries by letters, so that a file is a word.
 W = Weighing(m=2, p=310000, q=280100, a=-9500, b=550000, n=150000)
 V = Weighing(m=3, p=355, q=90, a=50, b=13350, n=0)
+P = Paired(m=2, p=310001, q=280100, p2=310000, q2=280102, a=-9500, b=550000, n=150000)
 LIMITS, FRONT, WATER = (25000, 42500, 380000, 450000, 240000), (-47500, 55000, 110000, 1000), (30000, 100000, 50000)
 S = Sheet(*LIMITS, *FRONT, 12000, 90000, 100000, *WATER)
 C = Change(c=-4500, arm=-100000, flag=1)
 D = Change(c=1, arm=0, flag=0)
 LETTERS = {
     **{"w": W, "v": V, "P": W._replace(p=0), "A": W._replace(b=0), "N": W._replace(n=310001)},
+    **{"p": P, "I": P._replace(p=0), "J": P._replace(p2=0), "K": P._replace(b=0)},
+    **{"n": P._replace(n=310000), "M": P._replace(n=310001)},
     **{"s": S, "r": S._replace(water_step=391), "S": S._replace(water_step=390)},
     **{"F": S._replace(fwd=42500), "T": S._replace(water_arm=2000001)},
     **{"c": C, "q": C._replace(c=-150000), "Q": C._replace(c=-150001)},
     **{"d": D, "l": D._replace(c=-160000), "L": D._replace(c=-160001), "g": D._replace(c=1690000)},
     **{"G": D._replace(c=1690001), "C": D._replace(c=0), "B": D._replace(arm=-2000001)},
 }
-KIND_ALONE = {**{str(kind): bytes([kind]) for kind in range(5)}, "/": b"\xff"}
+KIND_ALONE = {**{str(kind): bytes([kind]) for kind in range(6)}, "/": b"\xff"}
 
 # G and H, and a record that sheets fill.
 G_SHEET = Sheet(*LIMITS, *FRONT, 0, 0, 1, *WATER)
@@ -31,15 +34,18 @@ G = (Weighing(1, 288000, 0, 63334, 500000, 140000), G_SHEET)
 H_CHANGE = Change(4500, -100000, 1)
 SHEETS = 64 * (G_SHEET,)
 
+# G weighed twice.
+PAIR = (Paired(1, 288000, 0, 288001, 0, 63334, 500000, 140000), G_SHEET)
 
-def headed(body, length, count):
+
+def headed(body, length, count, version=VERSION):
     """The bytes behind a header that says so many bytes, itself among them, and so many entries."""
-    return ((length - 4) % 2**32).to_bytes(4, "big") + bytes([1, count % 256]) + body
+    return ((length - 4) % 2**32).to_bytes(4, "big") + bytes([version, count % 256]) + body
 
 
-def composed(letters):
+def composed(letters, version=VERSION):
     body = b"".join(KIND_ALONE.get(letter) or entry_bytes(LETTERS[letter]) for letter in letters)
-    return headed(body, 6 + len(body), len(letters))
+    return headed(body, 6 + len(body), len(letters), version)
 
 
 # Cases: a line that the program takes, and the line that it prints.
@@ -49,11 +55,16 @@ def numbers(journal):
     return " ".join(map(str, centre_of_gravity(journal)))
 
 
+def written_anew(data):
+    """A file that was accepted, as it is written: of version 2."""
+    return data[:4] + bytes([VERSION]) + data[5:]
+
+
 def tried(label, data):
     """A file read into a fresh record: the number, or the centre of gravity. That the file afterwards is as it should be
     has no word in a line."""
     number, journal = read(FRESH, data)
-    assert file_of(journal) == (file_of(FRESH) if number else data)
+    assert file_of(journal) == (file_of(FRESH) if number else written_anew(data))
     return f"t{data.hex()} {label}:", f"{label}: {number if number else numbers(journal)}"
 
 
@@ -77,7 +88,8 @@ def kept(label, call, arg="", calls=""):
 CHANGED = "c c4500 a-100000 f1"
 CALLS = {"K": "=", "G": "=,w p288000 q0 a63334 n140000,s b0 n0 t1"}
 CALLS |= {"H": f"{CALLS['G']},{CHANGED}", "64 sheets": ",".join(["=", *64 * ["s b0 n0 t1"]])}
-RECORDS = {"K": FRESH, "G": G, "H": (*G, H_CHANGE), "64 sheets": SHEETS}
+CALLS |= {"pair": "=,p p288000 q0 P288001 Q0 a63334 n140000,s b0 n0 t1"}
+RECORDS = {"K": FRESH, "G": G, "H": (*G, H_CHANGE), "64 sheets": SHEETS, "pair": PAIR}
 
 
 def shown(label, journal, calls):
@@ -86,10 +98,11 @@ def shown(label, journal, calls):
 
 
 def worked():
-    assert file_of(FRESH).hex(" ") == "00 00 00 02 01 00"
-    assert centre_of_gravity(G) == (0, 288000, 288000 * 63334, 63334)
-    assert (len(file_of(G)), len(file_of(SHEETS))) == (89, 3910)
-    for label in "KGH":
+    assert file_of(FRESH).hex(" ") == "00 00 00 02 02 00"
+    assert centre_of_gravity(G) == (0, 576000, 576000 * 63334, 63334)
+    assert centre_of_gravity(PAIR) == (0, 576001, 576001 * 63334, 63334)
+    assert (len(file_of(G)), len(file_of(PAIR)), len(file_of(SHEETS))) == (89, 97, 3910)
+    for label in ("K", "G", "H", "pair"):
         journal, calls = RECORDS[label], CALLS[label]
         yield shown(label, journal, calls)
         yield shown(f"{label}, read back", read(FRESH, file_of(journal))[1], f"{calls},r")
@@ -98,13 +111,14 @@ def worked():
 # Short files with a byte or a number altered.
 
 
-def every_byte(letters, places):
-    data = composed(letters)
+def every_byte(letters, places, version=VERSION):
+    data = composed(letters, version)
+    of_version = "" if version == VERSION else f" of version {version}"
     for at in places:
         x = data[at]
         sums = [(x + more) % 256 for more in (1, 128, 255)]
         for y in sums + [y for y in (0, 1, 127, 128, 255) if y not in (x, *sums)]:
-            yield tried(f"[{letters}] byte {at}, {y}", data[:at] + bytes([y]) + data[at + 1 :])
+            yield tried(f"[{letters}]{of_version} byte {at}, {y}", data[:at] + bytes([y]) + data[at + 1 :])
 
 
 def number_altered(at, number, data):
@@ -117,11 +131,21 @@ def place_of(entries, entry, field):
     return len(file_of(entries[: entries.index(entry)])) + 1 + sum(map(width, fields))
 
 
+def each_other(entries, *fields):
+    """The file of some entries with a field of one of them altered, by each of the numbers behind it."""
+    for entry, field, *others in fields:
+        for other in others:
+            changed = entry._replace(**{field: other})
+            data = file_of([changed if x is entry else x for x in entries])
+            yield number_altered(place_of(entries, entry, field), other, data)
+
+
 def every_number():
     entries = (W, S, C)
     for length in (0, 94, 95, 96, 351, WORD):
         yield number_altered(0, length, headed(file_of(entries)[6:], length + 4, 3))
-    for entry, field, *others in (
+    yield from each_other(
+        entries,
         (W, "p", 0, 280099, 280100, MOST, MOST + 1, WORD),
         (W, "q", 0, 150000, 310000, 310001, MOST + 1, WORD),
         (W, "a", *ARMS),
@@ -144,21 +168,37 @@ def every_number():
         (S, "water_step", 0, 390, 391, MOST, MOST + 1, WORD),
         (C, "c", -MOST - 1, -150001, -150000, 0, 1690000, 1690001),
         (C, "arm", *ARMS),
-    ):
-        for other in others:
-            changed = entry._replace(**{field: other})
-            data = file_of([changed if x is entry else x for x in entries])
-            yield number_altered(place_of(entries, entry, field), other, data)
+    )
+
+
+def every_number_of_a_pair():
+    """Behind it a change of c -4500, flag 1."""
+    yield from each_other(
+        (P, C),
+        (P, "p", 0, 280099, 280100, MOST, MOST + 1, WORD),
+        (P, "q", 0, 310001, 310002, MOST + 1, 2**31, WORD),
+        (P, "p2", 0, 280101, 280102, MOST, MOST + 1, WORD),
+        (P, "q2", 0, 310000, 310001, MOST + 1, 2**31, WORD),
+        (P, "a", *ARMS),
+        (P, "b", 0, 1, MOST, MOST + 1, 2**31, WORD),
+        (P, "n", 0, 4499, 4500, 310000, 310001, WORD),
+        (C, "c", -MOST - 1, -150001, -150000, 0, 1689999, 1690000),
+    )
 
 
 def altered():
     yield from every_byte("", range(6))
     yield from every_byte("wc", range(38))
     yield from every_byte("s", range(6, 67))
+    yield from every_byte("p", range(36))
     yield from every_byte("wsc", range(7))
     yield from every_byte("wsc", [28])
     yield from every_byte("wsc", [89])
+    yield from every_byte("", range(6), version=1)
+    yield from every_byte("wc", range(4, 7), version=1)
+    yield from every_byte("p", [4], version=1)
     yield from every_number()
+    yield from every_number_of_a_pair()
 
 
 # Files cut off, or with a byte 0 more, and with other counts than their own.
@@ -169,11 +209,14 @@ def cut():
         ("", range(8), range(3)),
         ("w", range(27, 30), range(3)),
         ("s", range(66, 69), range(3)),
+        ("p", range(35, 38), range(3)),
         ("wsc", range(101), range(1, 4)),
         (64 * "s", [3909], [64]),
         (64 * "s", [3911], [64]),
         ("w" + 63 * "d", [658], range(63, 66)),
         ("w" + 64 * "d", [668], range(64, 67)),
+        ("w" + 62 * "d" + "p", [678], [64]),
+        ("p" + 64 * "d", [676], [65]),
     ):
         data = composed(letters) + bytes(2)
         for n in lengths:
@@ -184,18 +227,35 @@ def cut():
 
 # Entries in turn.
 
+PLAIN = (
+    "w v P A N wP wA wN vP wsP Pw Aw Nw wv vw wvP",
+    "s r S F T ws sw Ss sS rS Sr wS wSs wsS SwS wF wFs wT Tw sT",
+    "c d sc cw dw scw wc vc vd wvc vwc wvd wC wB wCw wBv wcc wscs wcwc",
+    "wl wL wlc wld wlL wll wLw wg wG wgd wgG wGs wq wQ wqQ wqc",
+    "0 1 2 3 / 0w /w w0 w1 w2 w3 w/ w0c ws/ wsc0 wsc1 wsc2 wsc3",
+)
+WITH_PAIRS = (
+    "p n I J K M pI pJ pK pM Ip Jp Kp Mp wp pw wJ wM pP pN pp wpw pwp vpw spn",
+    "pc pd ps psc cp dp wpc pwc pl pL pll plL pg pG pgG pq pQ pqQ nl nd nc nq",
+    "4 5 4w 5w w4 w5 p4 p5 s4w wsc4 wsc5 psc4 4p p0 p/",
+)
+OF_VERSION_1 = (
+    "w v P A N s r S F T c sc ws sw wS wsS wv wc wvc wC wB wl wL wg wG wq wQ wsc wscs 0 1 2 3 w0 w1 w2 w3 w/ wsc0 "
+    "p n J wp pw ps wsp pc psc wcp 4 5 w4 wsc4"
+)
+
 
 def turns():
-    for words in (
-        f"{64 * 's'} {65 * 's'}",
-        "w v P A N wP wA wN vP wsP Pw Aw Nw wv vw wvP",
-        "s r S F T ws sw Ss sS rS Sr wS wSs wsS SwS wF wFs wT Tw sT",
-        "c d sc cw dw scw wc vc vd wvc vwc wvd wC wB wCw wBv wcc wscs wcwc",
-        "wl wL wlc wld wlL wll wLw wg wG wgd wgG wGs wq wQ wqQ wqc",
-        "0 1 2 3 4 / 0w 4w /w w0 w1 w2 w3 w4 w/ w0c s4w ws/ wsc0 wsc1 wsc2 wsc3",
-    ):
-        for letters in words.split():
-            yield tried(f"[{letters}]", composed(letters))
+    """In version 1 there is no pair: a file that has one is none."""
+    yield tried("[64 s]", composed(64 * "s"))
+    yield tried("[65 s]", composed(65 * "s"))
+    for letters in " ".join((*PLAIN, *WITH_PAIRS)).split():
+        yield tried(f"[{letters}]", composed(letters))
+    for letters in OF_VERSION_1.split():
+        yield tried(f"[{letters}] of version 1", composed(letters, version=1))
+    for version in (0, 3, 4, 255):
+        for letters in ("ws", "ps"):
+            yield tried(f"[{letters}] of version {version}", composed(letters, version))
 
 
 # Records that files are read into, and that changes are made to then.
@@ -205,17 +265,20 @@ def read_in_turn(start, words):
     journal = RECORDS[start]
     yield kept(start, (0, journal), calls=CALLS[start])
     for word in words:
-        data = b"" if word in ("+", "-") else composed(word)
+        version = 1 if word.startswith("!") else VERSION
+        data = b"" if word in ("+", "-") else composed(word.lstrip("!"), version)
         number, journal = add(journal, H_CHANGE) if word == "+" else read(journal, data)
         yield kept(f"[{word}]", (number, journal), data.hex(), CHANGED if word == "+" else "")
 
 
 def records():
-    """Each word's file is read; - is no bytes, and + is a change, by its call."""
+    """Each word's file is read, that of a word with ! in version 1; - is no bytes, and + is a change, by its call."""
     for start, *words in (
         ("64 sheets", "wsS", "", "+", "cw", "vs", "+", "wS", "+"),
         ("64 sheets", "wsc", "+", "v/", "+"),
         ("G", "+", "-", "wC", "+", "", "+", "w", "+"),
+        ("G", "!wsc", "+", "!wp", "!", "+", "!vs", "+", "p", "+", "!w", "+"),
+        ("pair", "+", "!wsc", "+", "psc", "+", "!psc", "+", "!", "wJ"),
     ):
         yield list(read_in_turn(start, words))
 
@@ -237,6 +300,7 @@ def buffers():
     yield from written_into("G", 0, 6, 88, 89, 90)
     yield from written_into("H", 0, 89, 98, 99, 128)
     yield from written_into("64 sheets", 0, 6, 99, 3909, 3910)
+    yield from written_into("pair", 0, 89, 96, 97, 128)
 
 
 def cases():

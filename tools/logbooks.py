@@ -10,11 +10,11 @@ from pathlib import Path
 import cases
 import files
 import plates
-from oracle import Change, Sheet, Weighing, add, centre_of_gravity, file_of, placard, read, undo
-from oracle import SIGNED
+from oracle import Change, Paired, Sheet, Weighing, add, centre_of_gravity, file_of, placard, read, undo
+from oracle import HALVES, SIGNED
 
 SAMPLES = Path(__file__).parent.parent / "samples"
-NAMES = {"weighing": Weighing, "sheet": Sheet, "change": Change}
+NAMES = {"weighing": Weighing, "sheet": Sheet, "change": Change, "paired": Paired}
 NAME_OF = {kind: name for name, kind in NAMES.items()}
 SHORT = 160
 
@@ -70,13 +70,19 @@ def entry_line(entry):
     return " ".join([NAME_OF[type(entry)], *map(str, entry)]) + "\n"
 
 
+def grams(halves):
+    """Half grams, with .5 behind the grams where there is a half."""
+    whole, over = divmod(abs(halves), HALVES)
+    return f"{'-' if halves < 0 else ''}{whole}{'.5' if over else ''}"
+
+
 def listing(journal):
     lines = []
     for at, entry in enumerate(journal, 1):
         lines.append(entry_line(entry))
         if not isinstance(entry, Sheet):
             _, total, moment, centre = centre_of_gravity(journal[:at])
-            lines.append(f"# total {total} moment {moment} centre {centre}\n")
+            lines.append(f"# total {grams(total)} moment {grams(moment)} centre {centre}\n")
     return "".join(lines).encode()
 
 
@@ -85,6 +91,7 @@ def listing(journal):
 A = "weighing 1 310000 29900 9500 550000 0"
 S = "sheet 11200 30000 500000 500000 0 -123200 0 110000 1000 -11200 110000 55000 0 0 1"
 C = "change 4500 -100000 1"
+P = "paired 1 310000 29900 310001 29901 9500 550000 0"
 
 OF_A_LINE = (
     *("", "\n", "\n\n\n", "#", "# a comment", "#undo", "#\n#\n", " #", "# \xe9\n"),
@@ -117,6 +124,24 @@ OF_A_LINE = (
     *(A + "\n" + f"change 1 {arm} 0" for arm in (9, 10, 99, 100, 2000000, 2000001, -2000000, -2000001, -9, -10)),
 )
 
+# Paired weighings: what is no line, and comments with a half in total, in moment or in both.
+OF_A_PAIR = (
+    *(P, P + "\n" + C, P + "\n" + S, P + "\n" + A, A + "\n" + P, P + "\nundo", P + "\nundo\nundo", P + "\n" + P),
+    *("p", "pa", "pair", "paired", "paired ", "pairs", "pairedd", "paired 1", P[:-2], P + " ", P + " 0", P + "0", P + "\r"),
+    *(" " + P, P.replace("paired", "Paired"), P.replace("paired", "pair"), P.replace("paired", "weighing")),
+    *(P.replace("paired", "change"), A.replace("weighing", "paired"), P.replace(" ", "  ", 1), P.replace(" ", ",")),
+    *(P.replace(" 1 ", " -1 "), P.replace("310000", "-310000"), P.replace("29900", "-29900"), P[:-1] + "-0"),
+    *(P.replace("310001", "-310001"), P.replace("310001", "0310001"), P.replace("29901", "-29901"), P[:-1] + "01"),
+    *(P.replace("29901", "+29901"), P.replace("9500", "-9500"), P.replace("9500", "09500"), P.replace("9500", "-0")),
+    *(P.replace("550000", "-550000"), P.replace("310001", "29900"), P.replace("310001", ""), P.replace("310001", "310_001")),
+    *(f"paired 1 2 0 {p} 0 0 1 0" for p in (0, 1, 2000000, 2000001, 4294967296, 10**18 - 1, 10**18, 2**64)),
+    *(f"paired 1 {n} 0 {n + 1} 0 0 1 {n + more}" for n in (1, 1999999) for more in (0, 1)),
+    *(f"paired 1 1 0 1 1 {a} 1 0" for a in (-2000000, -2, -1, 0, 1, 2000000)),
+    *(f"paired 1 1 0 2 {q} {a} 1 0" for q in (0, 1) for a in (-1, 0, 1)),
+    *(f"paired 4 2000000 1999999 2000000 {q} -2000000 2000000 0" for q in (1999998, 1999999)),
+    *(f"paired 1 3 0 {p} 0 0 1 0\nchange {c} 7 0" for p in (3, 4) for c in (-3, -2, -1, 1)),
+)
+
 # Where a text stops, by the number of the line.
 OF_LINES = (
     f"# form\n\n{A}\n# sheet\n{S}\n\nchange 0 0 0\n{C}\n",
@@ -130,6 +155,9 @@ OF_LINES = (
     65 * f"{A}\n",
     64 * f"{A}\n" + "undo\n" + f"{S}\n" + f"{S}\n",
     100 * "#\n" + 20 * f"{A}\nundo\n" + "undo\n",
+    63 * f"{S}\n" + f"{P}\n",
+    64 * f"{P}\n" + "undo\n" + f"{P}\n" + f"{P}\n",
+    f"# again\n{P}\n# sheet\n{S}\n\n{P[:-1]}310001\n{C}\n",
 )
 
 
@@ -169,7 +197,7 @@ def all_cases():
     """Of the recorded texts that are long every twentieth."""
     texts = recorded()
     short, long = [t for t in texts if len(t) <= 600], [t for t in texts if len(t) > 600]
-    texts = [*OF_A_LINE, *OF_LINES, *short, *long[::20]]
+    texts = [*OF_A_LINE, *OF_A_PAIR, *OF_LINES, *short, *long[::20]]
     assert not any("~" in text for text in texts)
     return [text.encode("latin-1") for text in texts]
 

@@ -1,7 +1,8 @@
-"""An independent reckoning of paper 01 in whole numbers, to hold the programs against.
+"""An independent reckoning of paper 01 and of paper 02's card 1 in whole numbers, to hold the programs against.
 
     python3 tools/oracle.py cases > crates/cases/stdout
     python3 tools/oracle.py files > crates/files/stdout
+    python3 tools/oracle.py file-cases > crates/files/stdin
     python3 tools/oracle.py plates > crates/plates/stdout
     python3 tools/oracle.py logbooks > crates/logbooks/stdout
     python3 tools/oracle.py logbook-cases > crates/logbooks/stdin
@@ -15,7 +16,8 @@ accepted, and the journal afterwards.
 import sys
 from typing import NamedTuple
 
-# Weights are grams, arms hundredths of a millimetre.
+# Weights are grams, arms hundredths of a millimetre. A balance is in half grams, since it sums two readings.
+HALVES = 2
 MOST_WEIGHT = 2_000_000
 MOST_ARM = 2_000_000
 MOST_SEAT_LOAD = 500_000
@@ -34,6 +36,17 @@ class Weighing(NamedTuple):
     m: int
     p: int
     q: int
+    a: int
+    b: int
+    n: int
+
+
+class Paired(NamedTuple):
+    m: int
+    p: int
+    q: int
+    p2: int
+    q2: int
     a: int
     b: int
     n: int
@@ -72,6 +85,7 @@ def is_arm(x):
 
 
 def is_total(x):
+    """A total in grams."""
     return 1 <= x <= MOST_WEIGHT
 
 
@@ -79,15 +93,25 @@ def is_total(x):
 
 
 class Balance(NamedTuple):
-    """G, M and n."""
+    """G, M and n: of one reading in grams, of a journal in half grams."""
 
     total: int
     moment: int
     nonlifting: int
 
 
-def weighed_balance(w):
-    """The balance by one of the four methods."""
+def readings(entry):
+    """The two weighings that count together; a plain one counts as a pair of equals."""
+    if isinstance(entry, Weighing):
+        return entry, entry
+    return (
+        Weighing(entry.m, entry.p, entry.q, entry.a, entry.b, entry.n),
+        Weighing(entry.m, entry.p2, entry.q2, entry.a, entry.b, entry.n),
+    )
+
+
+def read_balance(w):
+    """What one reading says, by one of the four methods, in grams."""
     if w.m == 1:
         return Balance(w.p, w.p * w.a + w.q * w.b, w.n)
     if w.m == 2:
@@ -99,14 +123,20 @@ def weighed_balance(w):
     return Balance(total, total * w.a - w.q * w.b, w.n)
 
 
+def weighed_balance(entry):
+    """The sums over both readings, in half grams."""
+    return Balance(*map(sum, zip(*map(read_balance, readings(entry)))))
+
+
 def changed_balance(balance, x):
-    nonlifting = balance.nonlifting + (x.c if x.flag == 1 else 0)
-    return Balance(balance.total + x.c, balance.moment + x.c * x.arm, nonlifting)
+    c = HALVES * x.c
+    nonlifting = balance.nonlifting + (c if x.flag == 1 else 0)
+    return Balance(balance.total + c, balance.moment + c * x.arm, nonlifting)
 
 
 def balance_of(journal):
-    """The last weighing with the changes behind it, or None."""
-    places = [i for i, entry in enumerate(journal) if isinstance(entry, Weighing)]
+    """The last weighing, plain or paired, with the changes behind it, or None."""
+    places = [i for i, entry in enumerate(journal) if isinstance(entry, (Weighing, Paired))]
     if not places:
         return None
     balance = weighed_balance(journal[places[-1]])
@@ -129,19 +159,23 @@ def row_count(s):
 # The number that an entry gets: the first in its call's order, or 0.
 
 
-def weighing_number(journal, w):
+def is_reading(w):
+    if w.m not in (1, 2, 3, 4) or not is_weight(w.p) or not is_weight(w.q):
+        return False
+    if w.m in (1, 2) and w.q > w.p:
+        return False
+    return is_total(read_balance(w).total)
+
+
+def weighing_number(journal, entry):
+    """Plain or paired: by number, and not reading by reading."""
     if len(journal) == MOST_ENTRIES:
         return FULL
-    if w.m not in (1, 2, 3, 4) or not is_weight(w.p) or not is_weight(w.q):
+    if not all(map(is_reading, readings(entry))):
         return READING
-    if w.m in (1, 2) and w.q > w.p:
-        return READING
-    total = weighed_balance(w).total
-    if not is_total(total):
-        return READING
-    if not is_arm(w.a) or not 1 <= w.b <= MOST_ARM:
+    if not is_arm(entry.a) or not 1 <= entry.b <= MOST_ARM:
         return ARM
-    if not 0 <= w.n <= total:
+    if not 0 <= entry.n <= min(read_balance(w).total for w in readings(entry)):
         return NONLIFTING
     return 0
 
@@ -181,21 +215,21 @@ def change_number(journal, x):
     if x.c == 0 or abs(x.c) > MOST_WEIGHT or x.flag not in (0, 1):
         return CHANGE
     after = changed_balance(balance, x)
-    if not is_total(after.total):
+    if not HALVES <= after.total <= HALVES * MOST_WEIGHT:
         return CHANGE
     if not 0 <= after.nonlifting <= after.total:
         return NONLIFTING
     return 0
 
 
-NUMBER_OF = {Weighing: weighing_number, Sheet: sheet_number, Change: change_number}
+NUMBER_OF = {Weighing: weighing_number, Sheet: sheet_number, Change: change_number, Paired: weighing_number}
 
 
 # The calls.
 
 
 def add(journal, entry):
-    """A weighing, a sheet or a change."""
+    """A weighing, a sheet, a change or a paired weighing."""
     number = NUMBER_OF[type(entry)](journal, entry)
     return (number, journal) if number else (0, journal + (entry,))
 
@@ -206,7 +240,7 @@ def undo(journal):
 
 
 def centre_of_gravity(journal):
-    """Number, total, moment and centre; the centre is the floor of M/G + 1/2."""
+    """Number, total and moment in half grams, and centre; the centre is the floor of M/G + 1/2."""
     balance = balance_of(journal)
     if balance is None:
         return UNWEIGHED, 0, 0, 0
@@ -216,8 +250,10 @@ def centre_of_gravity(journal):
 
 # The file.
 
-VERSION = 1
-KINDS = {1: Weighing, 2: Sheet, 3: Change}
+# The version that is written, and the last kind of entry that each version has.
+VERSION = 2
+LAST_KIND = {1: 3, 2: 4}
+KINDS = {1: Weighing, 2: Sheet, 3: Change, 4: Paired}
 KIND_OF = {kind: number for number, kind in KINDS.items()}
 IN_ONE_BYTE = {"m", "flag"}
 SIGNED = {"a", "fwd", "aft", "front_arm", "rear_arm", "water_arm", "c", "arm"}
@@ -242,18 +278,18 @@ def entry_from(kind, spelled):
     return kind(**fields)
 
 
-def file_of(journal):
-    rest = bytes([VERSION, len(journal)]) + b"".join(map(entry_bytes, journal))
+def file_of(journal, version=VERSION):
+    rest = bytes([version, len(journal)]) + b"".join(map(entry_bytes, journal))
     return len(rest).to_bytes(4, "big") + rest
 
 
 def entries_of(data):
     """The entries of bytes that are laid out as a file, or None: the whole is taken apart before it is counted."""
-    if len(data) < 6 or int.from_bytes(data[:4], "big") != len(data[4:]) or data[4] != VERSION:
+    if len(data) < 6 or int.from_bytes(data[:4], "big") != len(data[4:]) or data[4] not in LAST_KIND:
         return None
     entries, rest = [], data[6:]
     while rest:
-        kind = KINDS.get(rest[0])
+        kind = KINDS.get(rest[0]) if rest[0] <= LAST_KIND[data[4]] else None
         end = 1 + sum(map(width, kind._fields)) if kind else 0
         if not kind or len(rest) < end:
             return None
@@ -288,13 +324,13 @@ def read(journal, data):
 
 def keeps_with(s, balance, rear, p, v):
     """Whether a front load keeps the lines of limits with v of the water aboard."""
-    dry = balance.total + p + rear
-    weight = dry + v
-    moment = balance.moment + p * s.front_arm + rear * s.rear_arm + v * s.water_arm
+    dry = balance.total + HALVES * (p + rear)
+    weight = dry + HALVES * v
+    moment = balance.moment + HALVES * (p * s.front_arm + rear * s.rear_arm + v * s.water_arm)
     return (
-        dry <= s.dry
-        and weight <= s.wet
-        and (s.nlp == 0 or balance.nonlifting + p + rear <= s.nlp)
+        dry <= HALVES * s.dry
+        and weight <= HALVES * s.wet
+        and (s.nlp == 0 or balance.nonlifting + HALVES * (p + rear) <= HALVES * s.nlp)
         and moment >= s.fwd * weight
         and 20 * moment <= (19 * s.aft + s.fwd) * weight
     )

@@ -2,14 +2,14 @@
 
 import random
 
-from cases import BACK, FRESH, SECOND, repeated, sheet, weighing
-from files import G, H_CHANGE, byte_sum
-from oracle import Balance, Change, Sheet, Weighing, add, balance_of, centre_of_gravity, file_of, placard, read, row
-from oracle import row_loads, sheet_in_force, undo, whole_tank
+from cases import BACK, FRESH, PAIRED, SECOND, as_pair, paired, repeated, sheet, weighing
+from files import G, H_CHANGE, PAIR, byte_sum
+from oracle import HALVES, Balance, Change, Paired, Sheet, Weighing, add, balance_of, centre_of_gravity, file_of, placard, read
+from oracle import row, row_loads, sheet_in_force, undo, whole_tank
 
 MOST, MOST_SEAT = 2000000, 500000
 
-# Reading back: the record's own file into a fresh record, the file of G, and that without its last byte.
+# Reading back: the record's own file into a fresh record, the file of G in version 1, and that without its last byte.
 AGAIN, READ_G, READ_CUT = "again", "G's file", "cut"
 
 # A sheet of one row that limits nothing but the front load.
@@ -32,7 +32,7 @@ def call(journal, step):
     if step is AGAIN:
         return read(FRESH, file_of(journal))
     if step in (READ_G, READ_CUT):
-        return read(journal, file_of(G)[: 89 if step is READ_G else 88])
+        return read(journal, file_of(G, version=1)[: 89 if step is READ_G else 88])
     return undo(journal) if step is BACK else add(journal, step)
 
 
@@ -92,7 +92,7 @@ def agreement():
     draw = random.Random(1).randint
     given = 0
     for _ in range(2000):
-        fwd, dry, total = draw(-60, 40), draw(60, 200), draw(1, 120)
+        fwd, dry, total = draw(-60, 40), draw(60, 200), draw(2, 240)
         limits = (fwd, fwd + draw(1, 60), dry, dry + draw(0, 40), draw(0, 1) * draw(40, 160))
         front = (draw(-90, 90), draw(0, 20), draw(20, 60), draw(1, 7))
         s = Sheet(*limits, *front, draw(-90, 90), 4, 2, draw(-90, 90), 12, 4)
@@ -280,8 +280,7 @@ def rounded_balance(journal):
     assert number == 0
     for entry in journal[1:]:
         if isinstance(entry, Change):
-            _, _, _, centre = centre_of_gravity((Weighing(1, total, 0, centre, 1, 0), entry))
-            total += entry.c
+            _, total, _, centre = centre_of_gravity((Weighing(1, total // HALVES, 0, centre, 1, 0), entry))
     return Balance(total, total * centre, balance_of(journal).nonlifting)
 
 
@@ -481,6 +480,96 @@ def widest():
         printed(f"{label} moment, 64 entries", played(FRESH, [*steps, out, back, AGAIN]))
 
 
+# Paired weighings. Totals of 288000 and 288001 g under 380 kg leave 91 kg, where G's leave 92.
+
+AVERAGED = Paired(1, 309990, 29893, 310010, 29907, 9500, 550000, 0)
+
+
+def half(**fields):
+    """The glider of 200 kg with half a gram more."""
+    return as_pair(level(), p2=200001)._replace(**fields)
+
+
+def fine(s):
+    """A sheet by the gram."""
+    return s._replace(front_step=1)
+
+
+def pair_plates():
+    g, g_sheet = G
+    assert placard((as_pair(g), g_sheet), bytes(108)) == placard(G, bytes(108))
+    assert ends_of(PAIR)[0] == (71, 91) and rows_of((PAIR[0], fine(g_sheet)))[0] == (0, 0, (70151, 91999))
+    assert ends_of((AVERAGED, J_SHEET)) == ends_of((A, J_SHEET))
+    for label, steps in {
+        "G as a pair": [as_pair(g), g_sheet],
+        "G as a pair, read back": [as_pair(g), g_sheet, AGAIN],
+        "288000 and 288001": PAIR,
+        "288000 and 288001, read back": [*PAIR, AGAIN],
+        "288000 and 288001, by the gram": [PAIR[0], fine(g_sheet)],
+        "288001 and 288000": [as_pair(g, p=288001), g_sheet],
+        "287999 and 288001": [as_pair(g, p=287999, p2=288001), g_sheet],
+        "288000 and 288001, H": [*PAIR, H_CHANGE],
+        "288000 and 288001, H by the gram": [PAIR[0], fine(g_sheet), H_CHANGE],
+        "288000 and 288001, I": [PAIR[0], I_SHEET],
+        "J averaged": [AVERAGED, J_SHEET],
+        "J averaged, read back": [AVERAGED, J_SHEET, AGAIN],
+    }.items():
+        printed(f"pair, {label}", played(FRESH, steps))
+
+
+def pair_weights():
+    """Half a gram over DRY or WET is over it; the non-lifting weight never has a half."""
+    waters, rears = {"capacity": 100000, "water_step": 50000}, {"greatest_rear": 50000, "rear_step": 25000}
+    sheets = (
+        *((f"DRY {dry}", lax(dry=dry)) for dry in (290000, 290001, 200000, 200001, 1)),
+        *((f"DRY {dry}, by the gram", fine(lax(dry=dry))) for dry in (290000, 290001, 200000, 200001)),
+        ("WET with water", lax(dry=290001, wet=340000, **waters)),
+        ("WET with water, by the gram", fine(lax(dry=290000, wet=340000, **waters))),
+        ("a gram of water over WET", fine(lax(dry=200001, wet=200001, capacity=1))),
+        ("NLP 180000", lax(nlp=180000, **rears)),
+        ("NLP 179999", lax(nlp=179999, **rears)),
+        ("all with both", fine(lax(nlp=180001, dry=279999, wet=330007, **rears, **waters))),
+    )
+    cases("pair, half a gram", (half(),), *sheets)
+
+
+def pair_limits():
+    """A moment of a half more misses a limit that is met."""
+    aft, forward = lax(fwd=0, aft=20000, front_arm=-1000), lax(fwd=10000, front_arm=-10000)
+    met, more = as_pair(level(a=24000)), {"q2": 1}
+    ahead, less = as_pair(level(a=18000)), {"m": 4, "p2": 200001, "q2": 1}
+    narrow = lax(fwd=25000, aft=42510, greatest_front=0)
+    for label, w, s in (
+        ("aft met at 50", met, aft),
+        ("aft missed by a half", met._replace(**more), aft),
+        ("aft missed by a half, by the gram", met._replace(**more), fine(aft)),
+        ("forward met at 80", ahead, forward),
+        ("forward missed by a half", ahead._replace(**less), forward),
+        ("forward missed by a half, by the gram", ahead._replace(**less), fine(forward)),
+        ("safe aft 41634.5 met", Paired(1, 1, 1, 1, 0, 41634, 1, 0), narrow),
+        ("safe aft 41634.5 missed by a half", Paired(1, 1, 1, 1, 1, 41634, 1, 0), narrow),
+        ("safe aft 41634.5 of three halves", Paired(1, 1, 1, 2, 0, 41634, 1, 0), narrow),
+        ("safe aft 41634.5 of three halves, missed", Paired(1, 1, 0, 2, 2, 41634, 1, 0), narrow),
+        ("safe aft 0.95 met", Paired(1, 10, 9, 10, 10, 0, 1, 0), lax(fwd=0, aft=1, greatest_front=0)),
+        ("safe aft 0.95 missed", Paired(1, 10, 10, 10, 10, 0, 1, 0), lax(fwd=0, aft=1, greatest_front=0)),
+        ("on the front arm", half(a=29000), lax(fwd=10000, aft=30000, front_arm=29000)),
+        ("a half behind the front arm", half(a=29000, q=1), lax(fwd=10000, aft=30000, front_arm=29000)),
+    ):
+        printed(f"pair, limits, {label}", add((w,), s))
+
+
+def pair_lists():
+    g, g_sheet = G
+    steps = [("weighing", g), ("sheet", g_sheet), ("a pair", PAIR[0]), ("change", H_CHANGE), ("read back", AGAIN)]
+    steps += [("no pair", paired(p2=0, q2=0)), ("another pair", as_pair(SECOND, p2=356)), ("taken back", BACK)]
+    steps += 3 * [("taken back", BACK)] + [("a pair alone", PAIRED), ("G's file", READ_G), ("no file", READ_CUT)]
+    steps += [("a pair behind it", PAIR[0])] + 2 * [("taken back", BACK)]
+    in_turn("pairs", FRESH, *steps)
+    journal = printed("pairs, 63 sheets", repeated(FRESH, g_sheet))
+    steps = [("the 64th", PAIR[0]), ("the 65th", PAIR[0]), ("read back", AGAIN), ("a change", H_CHANGE)]
+    in_turn("pairs", journal, *steps, ("taken back", BACK))
+
+
 # Gliders drawn by lot: the least of each number, and how many there are from there. The least load is drawn before the
 # front arm.
 
@@ -498,12 +587,21 @@ def drawn(seed, least, counts):
     return numbers
 
 
+def glider_by_lot(seed):
+    """A weighing and a sheet."""
+    fwd, aft, dry, wet, nlp, least, arm, *rest = drawn(2 * seed + 2, LEAST_SHEET, SHEETS)
+    w = Weighing(*drawn(2 * seed + 1, LEAST_WEIGHING, WEIGHINGS))
+    return w, Sheet(fwd, aft, dry, wet, nlp, arm, least, *rest)
+
+
 def by_lot():
+    """The last twenty are weighed twice: up to 999 g more on one scale, and up to 99 g on the other."""
     rows = blank = 0
-    for seed in range(50):
-        w = Weighing(*drawn(2 * seed + 1, LEAST_WEIGHING, WEIGHINGS))
-        fwd, aft, dry, wet, nlp, least, arm, *rest = drawn(2 * seed + 2, LEAST_SHEET, SHEETS)
-        s = Sheet(fwd, aft, dry, wet, nlp, arm, least, *rest)
+    for seed in range(70):
+        w, s = glider_by_lot(seed)
+        if 50 <= seed:
+            more, behind = drawn(seed, (0, 0), (1000, 100))
+            w = as_pair(w, p2=w.p + more, q2=w.q + behind)
         journal = printed(f"lot {seed}", played(FRESH, [w, s]))
         _, _, more_rows, more_blank, _ = placard(journal, bytes(9216))
         rows, blank = rows + more_rows, blank + more_blank
@@ -530,4 +628,8 @@ def report():
     greatest()
     narrowest()
     widest()
+    pair_plates()
+    pair_weights()
+    pair_limits()
+    pair_lists()
     by_lot()

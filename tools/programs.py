@@ -1,5 +1,6 @@
 """What the programs `placard`, `show` and `logbook` take and must print, by the oracle's reckoning: case G, the longest file,
-one byte more, and a placard of 256 rows. `full_file`, `long_file` and `full_plate` are `placard` on other input."""
+one byte more, and a placard of 256 rows, from a file of version 1. `full_file`, `long_file` and `full_plate` are `placard` on
+other input."""
 
 from pathlib import Path
 
@@ -38,7 +39,7 @@ def sizes():
 def write():
     sizes()
     full = file_of(SHEETS)
-    taken = {"placard": file_of(G), "full_file": full, "long_file": full + b"\0", "full_plate": file_of(PLATE)}
+    taken = {"placard": file_of(G), "full_file": full, "long_file": full + b"\0", "full_plate": file_of(PLATE, version=1)}
     stored = {program: (data, printed(data)) for program, data in taken.items()}
     stored |= {"show": (full, listing(SHEETS)), "logbook": (listing(SHEETS), full)}
     for program, (stdin, stdout) in stored.items():
