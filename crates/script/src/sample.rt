@@ -51,7 +51,7 @@ pub fn weighing(ordinary: &[u8], other: &[u8]) -> Weighing {
 pub fn paired(other: &[u8]) -> Paired {
     let x = fields(
         b"mpqPQabn",
-        b"m1 p300000 q30000 P300000 Q30000 a10000 b500000 n100000",
+        b"m1 p300000 q30000 P300001 Q30010 a10000 b500000 n100000",
         other,
     );
     Paired {
