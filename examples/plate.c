@@ -1,6 +1,7 @@
 /*
  * A glider is weighed, its data sheet is installed (the paper's case G), a part
- * is fitted (case H) and taken back; the placard is printed each time.
+ * is fitted (case H) and taken back, and the glider is weighed once more with
+ * the scales read twice; the placard is printed each time.
  *
  * To compile, at the top of the repository, once `rt staticlib nodhulika` has
  * built the archive:
@@ -43,11 +44,13 @@ static void print_plate(const char *title, const uint8_t *record, size_t length)
 {
     uint8_t out[NODHULIKA_LONGEST_PLACARD];
     uint8_t answer[NODHULIKA_ANSWER];
-    int64_t bytes;
+    int64_t total, bytes;
 
     accept("centre", nodhulika_centre(record, length, answer, sizeof answer));
-    printf("%s: %" PRId64 " g, centre of gravity %" PRId64 "\n", title,
-           nodhulika_answer_number(answer, 0), nodhulika_answer_number(answer, 2));
+    total = nodhulika_answer_number(answer, 0); /* in half grams */
+    printf("%s: %" PRId64 "%s g, centre of gravity %" PRId64 "\n", title,
+           total / 2, total % 2 == 0 ? "" : ".5",
+           nodhulika_answer_number(answer, 2));
 
     accept("placard", nodhulika_placard(record, length, out, sizeof out,
                                         answer, sizeof answer));
@@ -68,6 +71,13 @@ int main(void)
 
     accept("undo", nodhulika_undo(record, sizeof record));
     print_plate("taken back", record, sizeof record);
+
+    accept("weigh_paired",
+           nodhulika_weigh_paired(record, sizeof record,
+                                  1, 288000, 0, 288001, 0, /* m, p, q, p2, q2 */
+                                  63334, 500000,           /* a, b */
+                                  140000));                /* n */
+    print_plate("weighed twice", record, sizeof record);
     printf("the record's file has %zu bytes\n", nodhulika_file_length(record));
     return EXIT_SUCCESS;
 }

@@ -6,14 +6,18 @@
  * millimetre. An arm is positive aft of the datum unless it is said otherwise.
  * A moment is weight times arm. Everywhere a weight is at most 2,000,000 and an
  * arm lies in -2,000,000..2,000,000. Any value may be given: what is out of its
- * range is refused.
+ * range is refused. Only nodhulika_centre answers in half grams.
  *
  * A record is the list of a glider's accepted entries, at most 64: weighings,
- * data sheets and changes. It is lent as its file at the front of a buffer of
- * the caller's: the first 4 + L bytes, L being the big-endian number in the
- * first four. The bytes behind the file are free. Only an accepted call that
- * makes the file longer writes there, and only as far as the file then reaches.
- * A buffer of NODHULIKA_LONGEST_FILE bytes has room for every record.
+ * plain and paired, data sheets and changes. It is lent as its file at the front
+ * of a buffer of the caller's: the first 4 + L bytes, L being the big-endian
+ * number in the first four. The bytes behind the file are free. Only an accepted
+ * call that makes the file longer writes there, and only as far as the file then
+ * reaches. A buffer of NODHULIKA_LONGEST_FILE bytes has room for every record.
+ *
+ * Files are written in version 2. One of version 1, which has no paired
+ * weighings, is taken as it is; the first accepted call that changes the record
+ * leaves one of version 2.
  *
  * Every function answers 0 where the call is accepted, else the number of its
  * refusal: the first, in the order given with the function, whose condition
@@ -56,7 +60,8 @@ extern "C" {
 #define NODHULIKA_ANSWER 24
 
 /* What the functions answer. G is the glider's empty total, n its non-lifting
- * weight. */
+ * weight. Of a paired weighing it is enough that a condition holds of one
+ * reading. */
 enum nodhulika_refusal {
     /* Accepted. */
     NODHULIKA_OK = 0,
@@ -139,6 +144,30 @@ uint64_t nodhulika_weigh(uint8_t *buffer, size_t buffer_length,
                          int64_t a, uint64_t b, uint64_t n);
 
 /*
+ * Adds a paired weighing to the record: the glider is disturbed, read again, and
+ * both readings count. Total and moment are the sums over both, each worked out
+ * by the method as with nodhulika_weigh, so that the glider weighs what they
+ * average. A plain weighing counts as the pair of its readings with themselves.
+ *
+ * buffer: the record; 30 bytes behind its file are written, and its header.
+ * m: the method, 1..4.
+ * p, q: the first readings, as with nodhulika_weigh.
+ * p2, q2: the second ones, in the same ranges.
+ * a, b: the distances, as with nodhulika_weigh.
+ * n: the weight of the non-lifting parts, in g: at most the smaller of the two
+ *    totals.
+ *
+ * Answers NODHULIKA_OK or, in this order, NODHULIKA_FILE, NODHULIKA_FULL,
+ * NODHULIKA_READING, NODHULIKA_ARM, NODHULIKA_NON_LIFTING, NODHULIKA_SHORT: by
+ * number, and not reading by reading.
+ */
+NODHULIKA_MUST_USE
+uint64_t nodhulika_weigh_paired(uint8_t *buffer, size_t buffer_length,
+                                uint64_t m, uint64_t p, uint64_t q,
+                                uint64_t p2, uint64_t q2,
+                                int64_t a, uint64_t b, uint64_t n);
+
+/*
  * Adds a data sheet to the record; the last one is in force. The placard has a
  * row for each multiple of the rear step up to rear_most and each multiple of
  * the water step up to water_most, from 0: at most 256 rows.
@@ -208,7 +237,7 @@ uint64_t nodhulika_undo(uint8_t *buffer, size_t buffer_length);
  * Puts the record of a file in the place of whatever the buffer holds.
  *
  * buffer: where to; it need not hold a record before. As many bytes at its
- *    front are written as the file has.
+ *    front are written as the file has, as a file of version 2.
  * file: the file, exactly: a byte too many is refused as one too few.
  *
  * Answers NODHULIKA_OK or, in this order, NODHULIKA_FILE (of file),
@@ -220,13 +249,16 @@ uint64_t nodhulika_read(uint8_t *buffer, size_t buffer_length,
 
 /*
  * The glider's empty total, moment and centre of gravity, from the last
- * weighing and the changes behind it.
+ * weighing, plain or paired, and the changes behind it.
  *
  * buffer: the record.
  * answer: where to; NODHULIKA_ANSWER bytes at its front are written. Its
- *    numbers, for nodhulika_answer_number: 0 the total in g, 1 the moment in
- *    g times hundredths of a millimetre, 2 the centre of gravity as an arm, to
- *    the nearest unit, halves towards the tail.
+ *    numbers, for nodhulika_answer_number: 0 the total in half grams, 1 the
+ *    moment in half grams times hundredths of a millimetre, 2 the centre of
+ *    gravity as an arm, to the nearest unit, halves towards the tail. A total
+ *    prints in grams as total / 2, with ".5" behind it where total is odd:
+ *
+ *      printf("%" PRId64 "%s g", total / 2, total % 2 == 0 ? "" : ".5");
  *
  * Answers NODHULIKA_OK or, in this order, NODHULIKA_FILE, NODHULIKA_UNWEIGHED,
  * NODHULIKA_SHORT.
