@@ -1,6 +1,7 @@
 //! A glider is weighed, its data sheet is installed (the paper's case G), a part
-//! is fitted (case H) and taken back; the placard is printed each time. Then that
-//! of a record's file, if one is given:
+//! is fitted (case H) and taken back, and the glider is weighed once more with
+//! the scales read twice; the placard is printed each time. Then that of a
+//! record's file, if one is given:
 //!
 //! ```text
 //! cargo run --example plate [record's file]
@@ -10,13 +11,25 @@ use std::error::Error;
 use std::ffi::OsStr;
 use std::{env, fs};
 
-use nodhulika::{Change, Record, Refusal, Sheet, Station, Weighing};
+use nodhulika::{Change, Paired, Record, Refusal, Sheet, Station, Weighing};
 
 /// A glider weighed on wheel and tail.
 const WEIGHING: Weighing = Weighing {
     m: Weighing::WHEEL_AND_TAIL,
     p: 288_000,
     q: 0,
+    a: 63_334,
+    b: 500_000,
+    n: 140_000,
+};
+
+/// The same glider, disturbed and read again: a gram more.
+const PAIRED: Paired = Paired {
+    m: Weighing::WHEEL_AND_TAIL,
+    p: 288_000,
+    q: 0,
+    p2: 288_001,
+    q2: 0,
     a: 63_334,
     b: 500_000,
     n: 140_000,
@@ -56,10 +69,8 @@ const PART: Change = Change {
 
 fn print_plate(title: &str, record: &Record) -> Result<(), Refusal> {
     let empty = record.centre_of_gravity()?;
-    println!(
-        "{title}: {} g, centre of gravity {}",
-        empty.total, empty.centre
-    );
+    let grams = empty.total as f64 / 2.0;
+    println!("{title}: {grams} g, centre of gravity {}", empty.centre);
     print!("{}", record.placard_text()?);
     Ok(())
 }
@@ -81,6 +92,9 @@ fn main() -> Result<(), Box<dyn Error>> {
 
     record.undo()?;
     print_plate("taken back", &record)?;
+
+    record.weigh_paired(&PAIRED)?;
+    print_plate("weighed twice", &record)?;
     println!("the record's file has {} bytes", record.as_bytes().len());
 
     if let Some(path) = env::args_os().nth(1) {

@@ -43,6 +43,51 @@ impl Weighing {
     pub const JURY_BALLAST: u64 = 4;
 }
 
+/// A paired weighing: the glider is disturbed, read again, and both readings
+/// count.
+///
+/// Total and moment are the sums over both, each worked out by the method as
+/// with a [`Weighing`]: in half grams, so the average in grams. A weighing
+/// counts as the pair of its readings with themselves.
+///
+/// ```
+/// use nodhulika::{Paired, Record, Refusal, Weighing};
+///
+/// let mut record = Record::new();
+/// record.weigh_paired(&Paired {
+///     m: Weighing::WHEEL_AND_TAIL,
+///     p: 288_000,
+///     q: 0,
+///     p2: 288_001,
+///     q2: 0,
+///     a: 63_334,
+///     b: 500_000,
+///     n: 140_000,
+/// })?;
+/// assert_eq!(record.centre_of_gravity()?.total, 576_001);
+/// # Ok::<(), Refusal>(())
+/// ```
+#[derive(Clone, Copy, Debug, PartialEq, Eq, Hash)]
+pub struct Paired {
+    /// The method, 1..4: one of the constants of [`Weighing`].
+    pub m: u64,
+    /// The first reading p, as in a [`Weighing`].
+    pub p: u64,
+    /// The first reading q, as in a [`Weighing`].
+    pub q: u64,
+    /// The second reading p', which keeps to the same ranges as the first.
+    pub p2: u64,
+    /// The second reading q', which keeps to the same ranges as the first.
+    pub q2: u64,
+    /// The distance a, as in a [`Weighing`].
+    pub a: i64,
+    /// The distance b, as in a [`Weighing`].
+    pub b: u64,
+    /// The weight of the non-lifting parts, in grams: at most the smaller of the
+    /// two totals.
+    pub n: u64,
+}
+
 /// Where a load goes.
 #[derive(Clone, Copy, Debug, PartialEq, Eq, Hash)]
 pub struct Station {
@@ -107,11 +152,23 @@ impl Change {
 }
 
 /// A glider's empty total, moment and centre of gravity.
+///
+/// Total and moment are in half grams, since a paired weighing can leave a half.
+/// As an `f64` either of them by 2 is exact in grams, and prints as one would
+/// write it:
+///
+/// ```
+/// use nodhulika::CentreOfGravity;
+///
+/// let twice = CentreOfGravity { total: 576_001, moment: -3, centre: 0 };
+/// assert_eq!(format!("{} g", twice.total as f64 / 2.0), "288000.5 g");
+/// assert_eq!(format!("{}", twice.moment as f64 / 2.0), "-1.5");
+/// ```
 #[derive(Clone, Copy, Debug, PartialEq, Eq, Hash)]
 pub struct CentreOfGravity {
-    /// The total, 1..2,000,000 g.
+    /// The total, 2..4,000,000 half grams.
     pub total: u64,
-    /// The moment, in grams times hundredths of a millimetre.
+    /// The moment, in half grams times hundredths of a millimetre.
     pub moment: i64,
     /// The centre of gravity as an arm: moment by total to the nearest hundredth
     /// of a millimetre, halves towards the tail.

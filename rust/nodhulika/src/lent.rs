@@ -6,6 +6,9 @@
 //! only as far as the file then reaches. A buffer of
 //! [`LONGEST_FILE`](crate::LONGEST_FILE) bytes has room for every record.
 //!
+//! A file of version 1 is taken as it is. The first accepted call that changes
+//! the record leaves one of version 2.
+//!
 //! With each call stand its refusals, in the order in which they are looked for.
 //! A refusal changes no byte of any buffer.
 //!
@@ -29,7 +32,7 @@
 //! ```
 
 use crate::sys::{self, ANSWER};
-use crate::{CentreOfGravity, Change, Counts, Refusal, Sheet, Weighing};
+use crate::{CentreOfGravity, Change, Counts, Paired, Refusal, Sheet, Weighing};
 
 /// Begins a fresh record, one with no entry, whatever the buffer holds.
 ///
@@ -49,7 +52,7 @@ pub fn check(buffer: &[u8]) -> Result<(), Refusal> {
     outcome(sys::check(buffer))
 }
 
-/// The file of the record at the front of the buffer.
+/// The file of the record at the front of the buffer, in the version that it has.
 ///
 /// # Errors
 ///
@@ -67,6 +70,19 @@ pub fn file(buffer: &[u8]) -> Result<&[u8], Refusal> {
 /// [`Refusal::NonLifting`], [`Refusal::Short`].
 pub fn weigh(buffer: &mut [u8], weighing: &Weighing) -> Result<(), Refusal> {
     outcome(sys::weigh(buffer, weighing))
+}
+
+/// Adds a paired weighing.
+///
+/// A condition of either reading counts, in the order of the numbers: one of the
+/// second is looked for before a later number of the first.
+///
+/// # Errors
+///
+/// [`Refusal::File`], [`Refusal::Full`], [`Refusal::Reading`], [`Refusal::Arm`],
+/// [`Refusal::NonLifting`], [`Refusal::Short`].
+pub fn weigh_paired(buffer: &mut [u8], paired: &Paired) -> Result<(), Refusal> {
+    outcome(sys::weigh_paired(buffer, paired))
 }
 
 /// Adds a data sheet; the last one is in force.
@@ -102,7 +118,8 @@ pub fn undo(buffer: &mut [u8]) -> Result<(), Refusal> {
 /// Puts the record of a file in the place of whatever the buffer holds.
 ///
 /// The buffer need not hold a record before. The file must be a record's
-/// exactly: a byte too many is refused as one too few.
+/// exactly: a byte too many is refused as one too few. What is put there is of
+/// version 2.
 ///
 /// # Errors
 ///
@@ -111,8 +128,8 @@ pub fn read(buffer: &mut [u8], file: &[u8]) -> Result<(), Refusal> {
     outcome(sys::read(buffer, file))
 }
 
-/// The empty total, moment and centre of gravity, from the last weighing and the
-/// changes behind it.
+/// The empty total, moment and centre of gravity, from the last weighing, plain or
+/// paired, and the changes behind it.
 ///
 /// # Errors
 ///

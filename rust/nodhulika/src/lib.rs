@@ -8,8 +8,8 @@
 //! # Records
 //!
 //! A record is the list of a glider's accepted entries, at most 64: weighings,
-//! data sheets and changes. [`Record`] owns one. [`lent`] has the same calls for
-//! records kept in memory of the caller's own.
+//! plain and paired, data sheets and changes. [`Record`] owns one. [`lent`] has
+//! the same calls for records kept in memory of the caller's own.
 //!
 //! A call that is not accepted gives a [`Refusal`] and changes nothing: no byte
 //! of the record, and no byte of a buffer that was lent for the answer.
@@ -20,7 +20,13 @@
 //! millimetre. An arm is positive aft of the datum unless it is said otherwise.
 //! A moment is weight times arm. Everywhere a weight is at most 2,000,000 and an
 //! arm lies in −2,000,000..2,000,000. Any value may be given: what is out of its
-//! range is refused.
+//! range is refused. Only what a glider's centre of gravity comes from, its total
+//! and moment, is answered in half grams: see [`CentreOfGravity`].
+//!
+//! # Files
+//!
+//! Files are written in version 2. Those of version 1, which has no paired
+//! weighings, are still read: a record is then written anew in version 2.
 //!
 //! # Example
 //!
@@ -69,7 +75,7 @@ mod refusal;
 #[allow(unsafe_code)]
 mod sys;
 
-pub use entry::{CentreOfGravity, Change, Counts, Sheet, Station, Weighing};
+pub use entry::{CentreOfGravity, Change, Counts, Paired, Sheet, Station, Weighing};
 pub use record::Record;
 pub use refusal::{Refusal, UnknownNumber};
 

@@ -3,10 +3,10 @@
 use std::fmt;
 
 use crate::{lent, LONGEST_FILE, LONGEST_PLACARD};
-use crate::{CentreOfGravity, Change, Counts, Refusal, Sheet, Weighing};
+use crate::{CentreOfGravity, Change, Counts, Paired, Refusal, Sheet, Weighing};
 
-/// The record of a glider: its accepted weighings, data sheets and changes, at
-/// most 64, in order.
+/// The record of a glider: its accepted weighings, plain and paired, data sheets
+/// and changes, at most 64, in order.
 ///
 /// Two records are equal when their files are. With each call stand its
 /// refusals, in the order in which they are looked for; a refusal leaves the
@@ -28,8 +28,8 @@ use crate::{CentreOfGravity, Change, Counts, Refusal, Sheet, Weighing};
 ///
 /// record.change(&Change { c: 4_500, arm: -100_000, flag: Change::NON_LIFTING })?;
 /// let fitted = record.centre_of_gravity()?;
-/// assert_eq!(fitted.total, 292_500);
-/// assert_eq!(fitted.moment, 288_000 * 63_334 - 4_500 * 100_000);
+/// assert_eq!(fitted.total, 2 * 292_500);
+/// assert_eq!(fitted.moment, 2 * (288_000 * 63_334 - 4_500 * 100_000));
 ///
 /// record.undo()?;
 /// assert_eq!(record, weighed);
@@ -45,7 +45,7 @@ impl Record {
     /// A fresh record, one with no entry.
     ///
     /// ```
-    /// assert_eq!(nodhulika::Record::new().as_bytes(), [0, 0, 0, 2, 1, 0]);
+    /// assert_eq!(nodhulika::Record::new().as_bytes(), [0, 0, 0, 2, 2, 0]);
     /// ```
     pub fn new() -> Record {
         let mut buffer = Box::new([0; LONGEST_FILE]);
@@ -55,7 +55,7 @@ impl Record {
         Record { buffer }
     }
 
-    /// The record of a file.
+    /// The record of a file, of version 1 or 2.
     ///
     /// # Errors
     ///
@@ -65,6 +65,7 @@ impl Record {
     /// ```
     /// use nodhulika::{Record, Refusal};
     ///
+    /// assert_eq!(Record::from_file(&[0, 0, 0, 2, 2, 0]), Ok(Record::new()));
     /// assert_eq!(Record::from_file(&[0, 0, 0, 2, 1, 0]), Ok(Record::new()));
     /// assert_eq!(Record::from_file(b"logbook"), Err(Refusal::File));
     /// ```
@@ -82,6 +83,16 @@ impl Record {
     /// [`Refusal::NonLifting`].
     pub fn weigh(&mut self, weighing: &Weighing) -> Result<(), Refusal> {
         lent::weigh(&mut self.buffer[..], weighing)
+    }
+
+    /// Adds a paired weighing.
+    ///
+    /// # Errors
+    ///
+    /// [`Refusal::Full`], [`Refusal::Reading`], [`Refusal::Arm`],
+    /// [`Refusal::NonLifting`], each of either reading.
+    pub fn weigh_paired(&mut self, paired: &Paired) -> Result<(), Refusal> {
+        lent::weigh_paired(&mut self.buffer[..], paired)
     }
 
     /// Adds a data sheet; the last one is in force.
@@ -122,8 +133,8 @@ impl Record {
         lent::read(&mut self.buffer[..], file)
     }
 
-    /// The empty total, moment and centre of gravity, from the last weighing and
-    /// the changes behind it.
+    /// The empty total, moment and centre of gravity, from the last weighing,
+    /// plain or paired, and the changes behind it.
     ///
     /// # Errors
     ///
@@ -159,7 +170,7 @@ impl Record {
             .collect())
     }
 
-    /// The record's file, which [`Record::from_file`] reads back.
+    /// The record's file, of version 2, which [`Record::from_file`] reads back.
     pub fn as_bytes(&self) -> &[u8] {
         lent::front(&self.buffer[..]).unwrap_or_default()
     }

@@ -6,8 +6,8 @@ use std::fmt;
 /// Why a call is refused, by the library's twelve numbers.
 ///
 /// A call gives the first, in the order that stands with it, whose condition
-/// holds. In what follows G is the glider's empty total and n its non-lifting
-/// weight.
+/// holds; of a paired weighing it is enough that it holds of one reading. In what
+/// follows G is the glider's empty total and n its non-lifting weight.
 #[derive(Clone, Copy, Debug, PartialEq, Eq, PartialOrd, Ord, Hash)]
 #[repr(u64)]
 pub enum Refusal {

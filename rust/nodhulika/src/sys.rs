@@ -10,7 +10,7 @@
 //!
 //! Each function here answers the library's number, 0 where it is accepted.
 
-use crate::{Change, Sheet, Weighing};
+use crate::{Change, Paired, Sheet, Weighing};
 
 /// Bytes of an answer: three numbers of eight bytes each.
 pub(crate) const ANSWER: usize = 24;
@@ -32,6 +32,20 @@ extern "C" {
         m: u64,
         p: u64,
         q: u64,
+        a: i64,
+        b: u64,
+        n: u64,
+    ) -> u64;
+
+    /// Sound with a `&mut` slice and any numbers, as `nodhulika_weigh`.
+    fn nodhulika_weigh_paired(
+        buffer: *mut u8,
+        buffer_length: usize,
+        m: u64,
+        p: u64,
+        q: u64,
+        p2: u64,
+        q2: u64,
         a: i64,
         b: u64,
         n: u64,
@@ -66,7 +80,7 @@ extern "C" {
     fn nodhulika_undo(buffer: *mut u8, buffer_length: usize) -> u64;
 
     /// Sound with a `&mut` and a `&` slice, which cannot overlap: copies the
-    /// second to the first if that is long enough.
+    /// second to the first, in version 2, if that is long enough.
     fn nodhulika_read(
         buffer: *mut u8,
         buffer_length: usize,
@@ -109,6 +123,24 @@ pub(crate) fn weigh(buffer: &mut [u8], w: &Weighing) -> u64 {
     let (pointer, length) = (buffer.as_mut_ptr(), buffer.len());
     // SAFETY: pointer and length are those of one exclusive slice.
     unsafe { nodhulika_weigh(pointer, length, w.m, w.p, w.q, w.a, w.b, w.n) }
+}
+
+pub(crate) fn weigh_paired(buffer: &mut [u8], x: &Paired) -> u64 {
+    // SAFETY: pointer and length are those of one exclusive slice.
+    unsafe {
+        nodhulika_weigh_paired(
+            buffer.as_mut_ptr(),
+            buffer.len(),
+            x.m,
+            x.p,
+            x.q,
+            x.p2,
+            x.q2,
+            x.a,
+            x.b,
+            x.n,
+        )
+    }
 }
 
 pub(crate) fn sheet(buffer: &mut [u8], s: &Sheet) -> u64 {

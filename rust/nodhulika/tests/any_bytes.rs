@@ -4,7 +4,7 @@
 
 mod common;
 
-use common::{case_g, FREE, G_SHEET, G_WEIGHING, H_CHANGE};
+use common::{case_g, of_version_1, FREE, G_PAIRED, G_SHEET, G_WEIGHING, H_CHANGE, VERSION};
 use nodhulika::{lent, Record, Refusal};
 
 /// Numbers from a seed, the same in every run (xorshift).
@@ -19,13 +19,20 @@ impl Numbers {
     }
 }
 
-/// A record's file with up to three bytes changed, cut or with free bytes behind.
+/// A record's file of either version, with up to three bytes changed, cut or with
+/// free bytes behind.
 fn buffer_from(numbers: &mut Numbers) -> Vec<u8> {
     let mut record = case_g();
+    if numbers.below(3) == 0 {
+        assert_eq!(record.weigh_paired(&G_PAIRED), Ok(()));
+    }
     for _ in 0..numbers.below(4) {
         assert_eq!(record.change(&H_CHANGE), Ok(()));
     }
     let mut buffer = record.as_bytes().to_vec();
+    if numbers.below(2) == 0 {
+        buffer = of_version_1(&buffer);
+    }
     for _ in 0..numbers.below(4) {
         let at = numbers.below(buffer.len());
         buffer[at] = numbers.below(256) as u8;
@@ -41,6 +48,7 @@ fn call_on(buffer: &[u8], call: impl Fn(&mut [u8]) -> Result<(), Refusal>) {
         Err(_) => assert_eq!(after, buffer),
         Ok(()) => {
             let end = lent::file(&after).unwrap().len();
+            assert_eq!(after[VERSION], 2);
             assert_eq!(after[end..], buffer[end..]);
             assert!(Record::from_file(&after[..end]).is_ok());
         }
@@ -56,6 +64,7 @@ fn any_bytes_will_do() {
         held += usize::from(lent::check(&buffer).is_ok());
         call_on(&buffer, lent::fresh);
         call_on(&buffer, |b| lent::weigh(b, &G_WEIGHING));
+        call_on(&buffer, |b| lent::weigh_paired(b, &G_PAIRED));
         call_on(&buffer, |b| lent::sheet(b, &G_SHEET));
         call_on(&buffer, |b| lent::change(b, &H_CHANGE));
         call_on(&buffer, lent::undo);

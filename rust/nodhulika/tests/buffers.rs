@@ -2,9 +2,11 @@
 
 mod common;
 
-use common::{case_g, full, lent, CHANGE, FREE, HEADER, SHEET, WEIGHING};
-use common::{G_PLACARD, G_SHEET, G_WEIGHING, H_CHANGE};
-use nodhulika::lent::{change, check, file, fresh, placard, read, sheet, undo, weigh};
+use common::{case_g, full, lent, CHANGE, FREE, HEADER, PAIRED, SHEET, WEIGHING};
+use common::{G_PAIRED, G_PLACARD, G_SHEET, G_WEIGHING, H_CHANGE};
+use nodhulika::lent::{
+    change, check, file, fresh, placard, read, sheet, undo, weigh, weigh_paired,
+};
 use nodhulika::{Record, Refusal, Sheet, LONGEST_FILE, LONGEST_PLACARD};
 
 /// Makes the call on the record in buffers with ever more room behind it. It
@@ -30,6 +32,7 @@ fn grows(record: &Record, growth: usize, call: impl Fn(&mut [u8]) -> Result<(), 
 fn an_entry_takes_its_own_bytes_and_no_more() {
     let record = case_g();
     grows(&record, WEIGHING, |buffer| weigh(buffer, &G_WEIGHING));
+    grows(&record, PAIRED, |buffer| weigh_paired(buffer, &G_PAIRED));
     grows(&record, SHEET, |buffer| sheet(buffer, &G_SHEET));
     grows(&record, CHANGE, |buffer| change(buffer, &H_CHANGE));
 }
@@ -41,7 +44,7 @@ fn a_fresh_record_takes_six_bytes() {
         let accepted = fresh(&mut buffer).is_ok();
         assert_eq!(accepted, length >= HEADER);
         if accepted {
-            assert_eq!(buffer[..HEADER], [0, 0, 0, 2, 1, 0]);
+            assert_eq!(buffer[..HEADER], [0, 0, 0, 2, 2, 0]);
             assert_eq!(buffer[HEADER..], vec![FREE; length - HEADER]);
         } else {
             assert_eq!(buffer, vec![FREE; length]);
@@ -104,7 +107,7 @@ fn reading_needs_no_record_and_leaves_what_is_behind() {
     assert_eq!(buffer[whole.len()..], vec![FREE; 200 - whole.len()]);
 
     // A shorter file: the bytes of the longer one stay behind it.
-    let fresh_file = [0, 0, 0, 2, 1, 0];
+    let fresh_file = [0, 0, 0, 2, 2, 0];
     assert_eq!(read(&mut buffer, &fresh_file), Ok(()));
     assert_eq!(file(&buffer), Ok(&fresh_file[..]));
     assert_eq!(buffer[HEADER..whole.len()], whole[HEADER..]);
@@ -124,7 +127,9 @@ fn reading_takes_the_file_exactly() {
 fn a_record_is_read_back_from_its_own_file() {
     let mut changed = case_g();
     assert_eq!(changed.change(&H_CHANGE), Ok(()));
-    for record in [Record::new(), case_g(), changed, full()] {
+    let mut twice = changed.clone();
+    assert_eq!(twice.weigh_paired(&G_PAIRED), Ok(()));
+    for record in [Record::new(), case_g(), changed, twice, full()] {
         let again = Record::from_file(record.as_bytes()).unwrap();
         assert_eq!(again, record);
         assert_eq!(again.as_bytes(), record.as_bytes());

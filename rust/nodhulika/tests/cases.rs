@@ -1,9 +1,10 @@
-//! The paper's worked cases, A to K.
+//! The paper's worked cases, A to K, with total and moment in half grams, and a
+//! glider weighed twice.
 
 mod common;
 
-use common::{case_g, record_of, station, G_PLACARD, G_SHEET, G_WEIGHING, H_CHANGE};
-use nodhulika::{CentreOfGravity, Counts, Record, Sheet, Station, Weighing, LINE};
+use common::{case_g, record_of, station, G_PAIRED, G_PLACARD, G_SHEET, G_WEIGHING, H_CHANGE};
+use nodhulika::{CentreOfGravity, Counts, Paired, Record, Sheet, Station, Weighing, LINE};
 
 const A: Weighing = weighing(Weighing::WHEEL_AND_TAIL, [310_000, 29_900], 9_500, 550_000);
 
@@ -26,15 +27,39 @@ fn counts(rows: usize, blank: usize) -> Counts {
     Counts { bytes, rows, blank }
 }
 
+/// What a paired weighing comes to.
+fn centre_of_pair(paired: Paired) -> CentreOfGravity {
+    let mut record = Record::new();
+    assert_eq!(record.weigh_paired(&paired), Ok(()));
+    record.centre_of_gravity().unwrap()
+}
+
+/// The pair of a weighing with itself.
+fn alike(w: Weighing) -> Paired {
+    Paired {
+        m: w.m,
+        p: w.p,
+        q: w.q,
+        p2: w.p,
+        q2: w.q,
+        a: w.a,
+        b: w.b,
+        n: w.n,
+    }
+}
+
+/// What a weighing comes to, and the pair of it with itself.
 fn centre_of(weighing: Weighing) -> CentreOfGravity {
     let mut record = Record::new();
     assert_eq!(record.weigh(&weighing), Ok(()));
-    record.centre_of_gravity().unwrap()
+    let centre = record.centre_of_gravity().unwrap();
+    assert_eq!(centre_of_pair(alike(weighing)), centre);
+    centre
 }
 
 #[test]
 fn a_and_b_wheel_and_tail() {
-    let found = centre(310_000, 19_390_000_000, 62_548);
+    let found = centre(620_000, 38_780_000_000, 62_548);
     assert_eq!(centre_of(A), found);
 }
 
@@ -52,14 +77,14 @@ fn c_nose_and_wheel_as_a() {
 #[test]
 fn d_two_slings() {
     let d = weighing(Weighing::TWO_SLINGS, [355, 90], 50, 13_350);
-    let found = centre(445, 1_179_250, 2_650);
+    let found = centre(890, 2_358_500, 2_650);
     assert_eq!(centre_of(d), found);
 }
 
 #[test]
 fn e_jury_ballast() {
     let e = weighing(Weighing::JURY_BALLAST, [460, 15], 3_000, 10_300);
-    let found = centre(445, 1_180_500, 2_653);
+    let found = centre(890, 2_361_000, 2_653);
     assert_eq!(centre_of(e), found);
 }
 
@@ -67,7 +92,7 @@ fn e_jury_ballast() {
 fn f_halves_go_towards_the_tail() {
     let f = weighing(Weighing::WHEEL_AND_TAIL, [2, 1], 0, 50_001);
     assert_eq!(centre_of(f).centre, 25_001);
-    let ahead = centre(2, -50_001, -25_000);
+    let ahead = centre(4, -100_002, -25_000);
     assert_eq!(centre_of(Weighing { a: -50_001, ..f }), ahead);
 }
 
@@ -136,6 +161,45 @@ fn j_two_seats() {
 
 #[test]
 fn k_the_file_of_a_fresh_record() {
-    assert_eq!(Record::new().as_bytes(), [0, 0, 0, 2, 1, 0]);
+    assert_eq!(Record::new().as_bytes(), [0, 0, 0, 2, 2, 0]);
     assert_eq!(Record::default(), Record::new());
+}
+
+#[test]
+fn both_readings_count() {
+    let twice = centre(576_001, 576_001 * 63_334, 63_334);
+    assert_eq!(centre_of_pair(G_PAIRED), twice);
+    // Each argument by itself: p, q, p2, q2, then a and b.
+    let pair = Paired {
+        m: Weighing::TWO_SLINGS,
+        p: 30,
+        q: 4,
+        p2: 31,
+        q2: 6,
+        a: 100,
+        b: 1_000,
+        n: 5,
+    };
+    assert_eq!(centre_of_pair(pair), centre(71, 2_900, 41));
+    let a = -100;
+    assert_eq!(
+        centre_of_pair(Paired { a, ..pair }),
+        centre(71, 17_100, 241)
+    );
+}
+
+/// Totals of 288,000 and 288,001 g under 380 kg leave 91 kg, and not 92.
+#[test]
+fn half_a_gram_over_is_over() {
+    let mut record = case_g();
+    assert_eq!(record.weigh_paired(&G_PAIRED), Ok(()));
+    let plate = "\
+0000.000 0000.000 0071.000 0091.000
+0000.000 0050.000 0071.000 0091.000
+0000.000 0100.000 -------- --------
+";
+    assert_eq!(record.placard_text().unwrap(), plate);
+
+    assert_eq!(record.weigh_paired(&alike(G_WEIGHING)), Ok(()));
+    assert_eq!(record.placard_text().unwrap(), G_PLACARD);
 }

@@ -154,7 +154,7 @@ fn declared_in_header(text: &str) -> Declared {
 #[test]
 fn all_three_declare_the_same() {
     let exported = declared_in_rattle(&rattle());
-    assert_eq!(exported.len(), 9, "{exported:?}");
+    assert_eq!(exported.len(), 10, "{exported:?}");
     assert_eq!(declared_in_header(&header()), exported);
     assert_eq!(declared_in_rust(&rust()), exported);
 }
@@ -172,6 +172,7 @@ fn caught(text: &str, read: impl Fn(&str) -> Declared, edits: &[(&str, &str)]) {
 fn a_declaration_that_drifts_is_caught() {
     let in_header = [
         ("uint64_t m, uint64_t p", "uint64_t p, uint64_t m"),
+        ("uint64_t p2, uint64_t q2", "uint64_t q2, uint64_t p2"),
         ("int64_t c, int64_t arm", "int64_t c, uint64_t arm"),
         ("const uint8_t *file", "uint8_t *file"),
         (", size_t out_length", ""),
@@ -181,6 +182,7 @@ fn a_declaration_that_drifts_is_caught() {
     let in_rust = [
         ("front_least: u64", "front_most: u64"),
         ("a: i64", "a: u64"),
+        ("p2: u64", "q2: u64"),
         ("answer: *mut u8", "answer: *const u8"),
         ("fn nodhulika_undo(", "fn nodhulika_redo("),
     ];

@@ -1,4 +1,5 @@
-/* What the header defines itself: its two inline functions. */
+/* What the header defines itself: its two inline functions, and what they read
+ * of a record and of an answer. */
 #include <stdio.h>
 #include <stdlib.h>
 
@@ -50,9 +51,26 @@ static void answer_numbers(void)
     EXPECT(nodhulika_answer_number(small, 2) == -258);
 }
 
+/* A pair of 1 and 2 grams, half a gram ahead of the datum in all. */
+static void half_grams(void)
+{
+    uint8_t record[64], answer[NODHULIKA_ANSWER];
+
+    EXPECT(nodhulika_fresh(record, sizeof record) == NODHULIKA_OK);
+    EXPECT(nodhulika_weigh_paired(record, sizeof record, 1, 1, 0, 2, 2, -1, 1,
+                                  0) == NODHULIKA_OK);
+    EXPECT(nodhulika_file_length(record) == 36);
+    EXPECT(nodhulika_centre(record, sizeof record, answer, sizeof answer) ==
+           NODHULIKA_OK);
+    EXPECT(nodhulika_answer_number(answer, 0) == 3);
+    EXPECT(nodhulika_answer_number(answer, 1) == -1);
+    EXPECT(nodhulika_answer_number(answer, 2) == 0);
+}
+
 int main(void)
 {
     file_lengths();
     answer_numbers();
+    half_grams();
     return EXIT_SUCCESS;
 }

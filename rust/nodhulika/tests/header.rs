@@ -55,7 +55,11 @@ taken back: 288000 g, centre of gravity 63334
 0000.000 0000.000 0071.000 0092.000
 0000.000 0050.000 0071.000 0092.000
 0000.000 0100.000 -------- --------
-the record's file has 89 bytes
+weighed twice: 288000.5 g, centre of gravity 63334
+0000.000 0000.000 0071.000 0091.000
+0000.000 0050.000 0071.000 0091.000
+0000.000 0100.000 -------- --------
+the record's file has 119 bytes
 ";
     assert_eq!(String::from_utf8_lossy(&output.stdout), plates);
 }

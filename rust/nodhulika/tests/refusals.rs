@@ -2,9 +2,11 @@
 
 mod common;
 
-use common::{case_g, full, lent, FREE, G_SHEET, G_WEIGHING, H_CHANGE};
-use nodhulika::lent::{centre, change, check, fresh, placard, read, sheet, undo, weigh};
-use nodhulika::{Change, Record, Refusal, Sheet, UnknownNumber, Weighing, LONGEST_FILE};
+use common::{case_g, full, lent, of_version_1, FREE, G_PAIRED, G_SHEET, G_WEIGHING, H_CHANGE};
+use nodhulika::lent::{
+    centre, change, check, fresh, placard, read, sheet, undo, weigh, weigh_paired,
+};
+use nodhulika::{Change, Paired, Record, Refusal, Sheet, UnknownNumber, Weighing, LONGEST_FILE};
 
 /// Makes the call on the record at the front of a long buffer: it gets this
 /// refusal, and the buffer stays as it was, free bytes included.
@@ -24,6 +26,13 @@ fn weighing_refused(refusal: Refusal, edit: impl Fn(&mut Weighing)) {
     let mut weighing = G_WEIGHING;
     edit(&mut weighing);
     refused(&case_g(), refusal, |buffer| weigh(buffer, &weighing));
+}
+
+/// The paired weighing with something changed in it.
+fn pair_refused(refusal: Refusal, edit: impl Fn(&mut Paired)) {
+    let mut paired = G_PAIRED;
+    edit(&mut paired);
+    refused(&case_g(), refusal, |buffer| weigh_paired(buffer, &paired));
 }
 
 /// The data sheet of case G with something changed in it.
@@ -51,6 +60,23 @@ fn number_1_reading() {
     for m in 1..=4 {
         // More than p in methods 1 and 2, a total over the most in 3, under 1 in 4.
         weighing_refused(Refusal::Reading, |w| (w.m, w.q) = (m, 2_000_000));
+        pair_refused(Refusal::Reading, |x| (x.m, x.q) = (m, 2_000_000));
+        pair_refused(Refusal::Reading, |x| (x.m, x.q2) = (m, 2_000_000));
+    }
+}
+
+#[test]
+fn number_1_reading_of_a_pair() {
+    for m in [0, 5, u64::MAX] {
+        pair_refused(Refusal::Reading, |x| x.m = m);
+    }
+    for reading in [0, 2_000_001, u64::MAX] {
+        pair_refused(Refusal::Reading, |x| (x.p, x.n) = (reading, 0));
+        pair_refused(Refusal::Reading, |x| (x.p2, x.n) = (reading, 0));
+    }
+    for reading in [288_002, 2_000_001, u64::MAX] {
+        pair_refused(Refusal::Reading, |x| x.q = reading);
+        pair_refused(Refusal::Reading, |x| x.q2 = reading);
     }
 }
 
@@ -58,6 +84,7 @@ fn number_1_reading() {
 fn number_2_arm() {
     for arm in [-2_000_001, 2_000_001, i64::MIN, i64::MAX] {
         weighing_refused(Refusal::Arm, |w| w.a = arm);
+        pair_refused(Refusal::Arm, |x| x.a = arm);
         change_refused(Refusal::Arm, |x| x.arm = arm);
         sheet_refused(Refusal::Arm, |s| s.fwd = arm);
         sheet_refused(Refusal::Arm, |s| s.aft = arm);
@@ -67,6 +94,7 @@ fn number_2_arm() {
     }
     for b in [0, 2_000_001, u64::MAX] {
         weighing_refused(Refusal::Arm, |w| w.b = b);
+        pair_refused(Refusal::Arm, |x| x.b = b);
     }
 }
 
@@ -74,6 +102,9 @@ fn number_2_arm() {
 fn number_3_non_lifting() {
     for n in [288_001, u64::MAX] {
         weighing_refused(Refusal::NonLifting, |w| w.n = n);
+        // Over the first total, and over the second one, which is then smaller.
+        pair_refused(Refusal::NonLifting, |x| x.n = n);
+        pair_refused(Refusal::NonLifting, |x| (x.p, x.p2, x.n) = (x.p2, x.p, n));
     }
     // One gram more taken out than the glider has of the kind.
     for (c, flag) in [(-140_001, Change::NON_LIFTING), (-148_001, Change::LIFTING)] {
@@ -154,6 +185,9 @@ fn number_8_no_sheet() {
 fn number_9_full() {
     let record = full();
     refused(&record, Refusal::Full, |buffer| weigh(buffer, &G_WEIGHING));
+    refused(&record, Refusal::Full, |buffer| {
+        weigh_paired(buffer, &G_PAIRED)
+    });
     refused(&record, Refusal::Full, |buffer| sheet(buffer, &G_SHEET));
     refused(&record, Refusal::Full, |buffer| change(buffer, &H_CHANGE));
 }
@@ -170,6 +204,7 @@ fn number_11_short() {
     // The buffer ends with the file: no room for an entry.
     for call in [
         |buffer: &mut [u8]| weigh(buffer, &G_WEIGHING),
+        |buffer: &mut [u8]| weigh_paired(buffer, &G_PAIRED),
         |buffer: &mut [u8]| sheet(buffer, &G_SHEET),
         |buffer: &mut [u8]| change(buffer, &H_CHANGE),
     ] {
@@ -192,12 +227,17 @@ fn number_11_short() {
 
 #[test]
 fn number_12_file() {
+    let mut twice = Record::new();
+    assert_eq!(twice.weigh_paired(&G_PAIRED), Ok(()));
     for bytes in [
         &[][..],
         &[0; 3],
         &[FREE; 200],
-        &[0, 0, 0, 2, 2, 0],
+        &[0, 0, 0, 2, 0, 0],
+        &[0, 0, 0, 2, 3, 0],
         &[0, 0, 0, 2, 1, 1],
+        &[0, 0, 0, 2, 2, 1],
+        &of_version_1(twice.as_bytes()),
     ] {
         let mut out = [FREE; 108];
         assert_eq!(placard(bytes, &mut out), Err(Refusal::File));
@@ -208,6 +248,7 @@ fn number_12_file() {
 
         for call in [
             |buffer: &mut [u8]| weigh(buffer, &G_WEIGHING),
+            |buffer: &mut [u8]| weigh_paired(buffer, &G_PAIRED),
             |buffer: &mut [u8]| sheet(buffer, &G_SHEET),
             |buffer: &mut [u8]| change(buffer, &H_CHANGE),
             |buffer: &mut [u8]| undo(buffer),
@@ -225,6 +266,14 @@ fn number_12_file() {
 fn the_first_in_order_is_given() {
     weighing_refused(Refusal::Reading, |w| (w.m, w.b, w.n) = (5, 0, u64::MAX));
     weighing_refused(Refusal::Arm, |w| (w.b, w.n) = (0, u64::MAX));
+    // By number, and not reading by reading.
+    pair_refused(Refusal::Reading, |x| (x.p2, x.b, x.n) = (0, 0, u64::MAX));
+    pair_refused(Refusal::Reading, |x| (x.p, x.p2) = (139_999, 0));
+    pair_refused(Refusal::Reading, |x| (x.p, x.p2) = (0, 139_999));
+    pair_refused(Refusal::Arm, |x| (x.p, x.b) = (139_999, 0));
+    pair_refused(Refusal::Arm, |x| (x.p2, x.b) = (139_999, 0));
+    pair_refused(Refusal::NonLifting, |x| x.p = 139_999);
+    pair_refused(Refusal::NonLifting, |x| x.p2 = 139_999);
     sheet_refused(Refusal::Arm, |s| {
         (s.aft, s.dry, s.rear.step) = (i64::MAX, 0, 0)
     });
@@ -256,6 +305,8 @@ fn an_owned_record_is_left_by_a_refusal() {
         record.weigh(&Weighing { m: 5, ..G_WEIGHING }),
         Err(Refusal::Reading)
     );
+    let light = Paired { p2: 0, ..G_PAIRED };
+    assert_eq!(record.weigh_paired(&light), Err(Refusal::Reading));
     assert_eq!(
         record.install(&Sheet { dry: 0, ..G_SHEET }),
         Err(Refusal::Sheet)

@@ -3,13 +3,18 @@
 // Each test file is a program of its own and uses a part of these.
 #![allow(dead_code)]
 
-use nodhulika::{Change, Record, Sheet, Station, Weighing};
+use nodhulika::{Change, Paired, Record, Sheet, Station, Weighing};
 
 /// Bytes of the header and of each kind of entry.
 pub const HEADER: usize = 6;
 pub const WEIGHING: usize = 22;
 pub const SHEET: usize = 61;
 pub const CHANGE: usize = 10;
+pub const PAIRED: usize = 30;
+
+/// Where a file has its version, and the one that is no longer written.
+pub const VERSION: usize = 4;
+pub const OLD: u8 = 1;
 
 /// What stands in a buffer where nothing was written.
 pub const FREE: u8 = 0x5a;
@@ -19,6 +24,18 @@ pub const G_WEIGHING: Weighing = Weighing {
     m: Weighing::WHEEL_AND_TAIL,
     p: 288_000,
     q: 0,
+    a: 63_334,
+    b: 500_000,
+    n: 140_000,
+};
+
+/// The same read again: a gram more.
+pub const G_PAIRED: Paired = Paired {
+    m: Weighing::WHEEL_AND_TAIL,
+    p: 288_000,
+    q: 0,
+    p2: 288_001,
+    q2: 0,
     a: 63_334,
     b: 500_000,
     n: 140_000,
@@ -76,6 +93,13 @@ pub fn lent(record: &Record, length: usize) -> Vec<u8> {
         Ok(())
     );
     buffer
+}
+
+/// The same bytes as a file of version 1.
+pub fn of_version_1(file: &[u8]) -> Vec<u8> {
+    let mut old = file.to_vec();
+    old[VERSION] = OLD;
+    old
 }
 
 /// A record of 64 entries: a weighing, and the same sheet 63 times.
