@@ -4,17 +4,21 @@
 //! where L is the number in the first four. What stands behind it is free and
 //! is left alone. A buffer that ends before 4 + L bytes, or whose front is not
 //! the file of any record, holds no record: number 12. On a refusal no byte of
-//! any buffer changes.
+//! any buffer changes. A file of version 1 is taken as it is; the first call
+//! that changes it leaves one of version 2.
 //!
-//! All numbers fit in 64 bits once their ranges are tested. The moment of a
-//! weighing is at most 2·(2e6·2e6) = 8e12 either way, and 63 changes add at
-//! most 63·4e12, so M stays below 2.6e14. A front and a rear load add 1e12
-//! each and the water 4e12, so S stays below 2.7e14 and 20·S below 5.4e15. On
-//! the other side T is at most 2e6 + 5e5 + 5e5 + 2e6 = 5e6 and 19·AFT + FWD at
-//! most 4e7, so their product is at most 2e14. The coefficients of P, at most
-//! 4e6 and 8e7, times a front step of 5e5 come to 4e13. An `i64` holds 9.2e18.
+//! All numbers fit in 64 bits once their ranges are tested; sums are in half
+//! grams. The moment of a weighing is at most 2·8e12 = 1.6e13 either way, and 63
+//! changes add at most 63·8e12, so M stays below 5.3e14. A front and a rear load
+//! add 2e12 each and the water 8e12, so S stays below 5.4e14 and 20·S below
+//! 1.1e16. On the other side T is at most 2·5e6 = 1e7 and 19·AFT + FWD at most
+//! 4e7, so their product is at most 4e14. The coefficients of P, at most 8e6 and
+//! 1.6e8, times a front step of 5e5 come to 8e13. An `i64` holds 9.2e18.
 
-use crate::paper::{Call, Centre, Change, Counts, Sheet, Weighing};
+use crate::paper::{Call, Centre, Change, Counts, Paired, Sheet, Weighing};
+
+/// Half grams in a gram.
+const HALVES: i64 = 2;
 
 const WEIGHT: u64 = 2_000_000;
 const ARM: i64 = 2_000_000;
@@ -22,13 +26,17 @@ const LOAD: u64 = 500_000;
 const MOST_ROWS: u64 = 256;
 const MOST_ENTRIES: u8 = 64;
 
-/// Bytes of the length field, and of all that stands before the entries.
+/// Bytes of the length field, and of all that stands before the entries; where
+/// the version stands among them, and the one that is written.
 const LENGTH: usize = 4;
 const HEAD: usize = 6;
+const VERSION_AT: usize = 4;
+const VERSION: u8 = 2;
 /// Bytes of an entry with its kind byte.
 const WEIGHING: usize = 22;
 const SHEET: usize = 61;
 const CHANGE: usize = 10;
+const PAIRED: usize = 30;
 /// Bytes of a line and of one of its fields.
 const LINE: usize = 36;
 const FIELD: usize = 8;
@@ -36,9 +44,9 @@ const FIELD: usize = 8;
 /// An accepted call, or the number of its refusal.
 type Answer<T> = Result<T, u64>;
 
-// ---- The three entries and their conditions ----
+// ---- The entries and their conditions ----
 
-/// G, M and n of the last weighing and the changes behind it.
+/// G, M and n of the last weighing and the changes behind it, in half grams.
 #[derive(Clone, Copy)]
 struct Sums {
     g: i64,
@@ -50,39 +58,73 @@ fn is_arm(arm: i64) -> bool {
     (-ARM..=ARM).contains(&arm)
 }
 
-fn is_total(g: i64) -> bool {
-    (1..=WEIGHT as i64).contains(&g)
-}
-
-/// A weighing's sums; refused with 1, 2 or 3.
-fn weigh(w: &Weighing) -> Answer<Sums> {
-    if w.p > WEIGHT || w.q > WEIGHT {
+/// G of one reading in grams; refused with 1.
+fn total(m: u64, p: u64, q: u64) -> Answer<i64> {
+    if p > WEIGHT || q > WEIGHT {
         return Err(1);
     }
-    let (p, q) = (w.p as i64, w.q as i64);
-    let g = match w.m {
+    let (p, q) = (p as i64, q as i64);
+    let g = match m {
         1 | 2 if q <= p => p,
         3 => p + q,
         4 => p - q,
         _ => return Err(1),
     };
-    if !is_total(g) {
-        return Err(1);
+    if (1..=WEIGHT as i64).contains(&g) {
+        Ok(g)
+    } else {
+        Err(1)
     }
-    if !is_arm(w.a) || !(1..=ARM as u64).contains(&w.b) {
-        return Err(2);
+}
+
+/// M of readings that were accepted, or of their sums: it is linear in them.
+fn moment(m: u64, p: i64, q: i64, a: i64, b: i64) -> i64 {
+    match m {
+        1 => p * a + q * b,
+        2 => (p - q) * b - p * a,
+        3 => q * b - (p + q) * a,
+        _ => (p - q) * a - q * b,
     }
+}
+
+/// Refused with 2.
+fn distances(a: i64, b: u64) -> Answer<()> {
+    if is_arm(a) && (1..=ARM as u64).contains(&b) {
+        Ok(())
+    } else {
+        Err(2)
+    }
+}
+
+/// A weighing's sums; refused with 1, 2 or 3.
+fn weigh(w: &Weighing) -> Answer<Sums> {
+    let g = total(w.m, w.p, w.q)?;
+    distances(w.a, w.b)?;
     if w.n > g as u64 {
         return Err(3);
     }
-    let (a, b, n) = (w.a, w.b as i64, w.n as i64);
-    let m = match w.m {
-        1 => p * a + q * b,
-        2 => (p - q) * b - p * a,
-        3 => q * b - g * a,
-        _ => g * a - q * b,
-    };
-    Ok(Sums { g, m, n })
+    let m = moment(w.m, w.p as i64, w.q as i64, w.a, w.b as i64);
+    Ok(Sums {
+        g: HALVES * g,
+        m: HALVES * m,
+        n: HALVES * w.n as i64,
+    })
+}
+
+/// A paired weighing's sums; refused with 1, 2 or 3.
+fn pair(x: &Paired) -> Answer<Sums> {
+    let first = total(x.m, x.p, x.q)?;
+    let second = total(x.m, x.p2, x.q2)?;
+    distances(x.a, x.b)?;
+    if x.n > first.min(second) as u64 {
+        return Err(3);
+    }
+    let (p, q) = ((x.p + x.p2) as i64, (x.q + x.q2) as i64);
+    Ok(Sums {
+        g: first + second,
+        m: moment(x.m, p, q, x.a, x.b as i64),
+        n: HALVES * x.n as i64,
+    })
 }
 
 /// Refused with 2, 4 or 5.
@@ -132,8 +174,9 @@ fn change(before: Option<Sums>, change: &Change) -> Answer<Sums> {
     if c == 0 || c.unsigned_abs() > WEIGHT || change.flag > 1 {
         return Err(6);
     }
+    let c = HALVES * c;
     let g = before.g + c;
-    if !is_total(g) {
+    if !(HALVES..=HALVES * WEIGHT as i64).contains(&g) {
         return Err(6);
     }
     let n = before.n + c * change.flag as i64;
@@ -198,6 +241,19 @@ fn change_from(bytes: &[u8; CHANGE]) -> Change {
     }
 }
 
+fn paired_from(bytes: &[u8; PAIRED]) -> Paired {
+    Paired {
+        m: u64::from(bytes[1]),
+        p: unsigned(bytes, 2),
+        q: unsigned(bytes, 6),
+        p2: unsigned(bytes, 10),
+        q2: unsigned(bytes, 14),
+        a: signed(bytes, 18),
+        b: unsigned(bytes, 22),
+        n: unsigned(bytes, 26),
+    }
+}
+
 /// Puts the low four bytes of a field: accepted values fit, and a negative one
 /// is then in two's complement.
 fn put<const N: usize>(bytes: &mut [u8; N], at: usize, field: u64) {
@@ -250,10 +306,23 @@ fn change_bytes(change: &Change) -> [u8; CHANGE] {
     bytes
 }
 
+fn paired_bytes(x: &Paired) -> [u8; PAIRED] {
+    let mut bytes = [0; PAIRED];
+    bytes[0] = 4;
+    bytes[1] = x.m as u8;
+    let fields = [x.p, x.q, x.p2, x.q2, x.a as u64, x.b, x.n];
+    for (i, field) in fields.into_iter().enumerate() {
+        put(&mut bytes, 2 + 4 * i, field);
+    }
+    bytes
+}
+
 /// What one pass over a file tells of its record.
 struct Record {
     /// Bytes of the whole file.
     length: usize,
+    /// Its version, 1 or 2.
+    version: u8,
     /// Entries that stand.
     count: u8,
     /// Where the last entry begins.
@@ -287,6 +356,11 @@ impl Record {
                 self.sums = Some(change(self.sums, &change_from(entry)).ok()?);
                 Some(rest)
             }
+            4 if self.version == VERSION => {
+                let (entry, rest) = rest.split_first_chunk()?;
+                self.sums = Some(pair(&paired_from(entry)).ok()?);
+                Some(rest)
+            }
             _ => None,
         }
     }
@@ -303,11 +377,12 @@ fn walk(buffer: &[u8]) -> Option<Record> {
     let length = LENGTH.checked_add(unsigned(head, 0) as usize)?;
     let mut rest = buffer.get(HEAD..length)?;
     let [_, _, _, _, version, count] = *head;
-    if version != 1 || count > MOST_ENTRIES {
+    if !(1..=VERSION).contains(&version) || count > MOST_ENTRIES {
         return None;
     }
     let mut record = Record {
         length,
+        version,
         count,
         last: HEAD,
         sums: None,
@@ -320,10 +395,11 @@ fn walk(buffer: &[u8]) -> Option<Record> {
     rest.is_empty().then_some(record)
 }
 
-/// Sets length and count of the file at the front of a buffer.
+/// Sets length, version and count of the file at the front of a buffer.
 fn set_head(buffer: &mut [u8], length: usize, count: u8) {
     let behind = (length - LENGTH) as u32;
     buffer[..LENGTH].copy_from_slice(&behind.to_be_bytes());
+    buffer[VERSION_AT] = VERSION;
     buffer[HEAD - 1] = count;
 }
 
@@ -334,7 +410,7 @@ fn set_head(buffer: &mut [u8], length: usize, count: u8) {
 pub fn fresh(buffer: &mut [u8]) -> u64 {
     match buffer.first_chunk_mut::<HEAD>() {
         Some(front) => {
-            *front = [0, 0, 0, 2, 1, 0];
+            *front = [0, 0, 0, 2, VERSION, 0];
             0
         }
         None => 11,
@@ -353,6 +429,7 @@ pub fn check(buffer: &[u8]) -> u64 {
 pub fn call(buffer: &mut [u8], call: &Call) -> u64 {
     let answer = match call {
         Call::Weigh(w) => add_weighing(buffer, w),
+        Call::Pair(x) => add_pair(buffer, x),
         Call::Install(s) => add_sheet(buffer, s),
         Call::Change(c) => add_change(buffer, c),
         Call::Undo => undo(buffer),
@@ -365,6 +442,12 @@ fn add_weighing(buffer: &mut [u8], w: &Weighing) -> Answer<()> {
     let record = open_record(buffer)?;
     weigh(w)?;
     append(buffer, &record, &weighing_bytes(w))
+}
+
+fn add_pair(buffer: &mut [u8], x: &Paired) -> Answer<()> {
+    let record = open_record(buffer)?;
+    pair(x)?;
+    append(buffer, &record, &paired_bytes(x))
 }
 
 fn add_sheet(buffer: &mut [u8], s: &Sheet) -> Answer<()> {
@@ -405,17 +488,20 @@ fn undo(buffer: &mut [u8]) -> Answer<()> {
     Ok(())
 }
 
-/// Reads a file back: 12 where the bytes are not exactly a file, then 11.
+/// Reads a file back: 12 where the bytes are not exactly a file, then 11. What it
+/// leaves is of version 2.
 fn read(buffer: &mut [u8], bytes: &[u8]) -> Answer<()> {
     if record(bytes)?.length != bytes.len() {
         return Err(12);
     }
     let front = buffer.get_mut(..bytes.len()).ok_or(11u64)?;
     front.copy_from_slice(bytes);
+    front[VERSION_AT] = VERSION;
     Ok(())
 }
 
-/// The empty centre of gravity; refused with 12 or 7.
+/// The empty centre of gravity, its total and moment in half grams; refused with
+/// 12 or 7.
 pub fn centre(buffer: &[u8]) -> Result<Centre, u64> {
     let Sums { g, m, .. } = record(buffer)?.sums.ok_or(7u64)?;
     Ok(Centre {
@@ -430,14 +516,17 @@ pub fn centre(buffer: &[u8]) -> Result<Centre, u64> {
 
 /// The limits of a sheet, made ready for the number k of front steps.
 ///
-/// With P = k·step every line of "A row" reads factor·k ≤ room. The factor is
-/// the same for all rows; only the room depends on rear load and water. So a
-/// row takes three divisions: the weights, S ≥ FWD·T and the safe aft limit.
+/// With P = k·step every line of "A row" reads factor·k ≤ room in half grams.
+/// The factor is the same for all rows; only the room depends on rear load and
+/// water. So a row takes three divisions: the weights, S ≥ FWD·T and the safe
+/// aft limit.
 struct Limits {
     /// Front steps between the least and the greatest front load.
     steps: Steps,
-    /// The front step, which is the factor of the weights.
+    /// The front step in grams.
     step: i64,
+    /// The same in half grams, which is the factor of the weights.
+    factor: i64,
     /// What DRY and NLP leave for both loads.
     dry: i64,
     /// What WET leaves for both loads and the water.
@@ -448,7 +537,7 @@ struct Limits {
     aft: Line,
 }
 
-/// factor·k ≤ room + r·rear + v·water.
+/// factor·k ≤ room + r·rear + v·water, with r and v in half grams.
 struct Line {
     factor: i64,
     room: i64,
@@ -489,29 +578,31 @@ impl Steps {
 impl Limits {
     fn new(sums: &Sums, sheet: &Sheet) -> Limits {
         let Sums { g, m, n } = *sums;
-        let step = sheet.front_step as i64;
+        let halves = |grams: u64| HALVES * grams as i64;
+        let factor = halves(sheet.front_step);
         let (fwd, safe) = (sheet.fwd, 19 * sheet.aft + sheet.fwd);
         let (front, rear, water) = (sheet.front_arm, sheet.rear_arm, sheet.water_arm);
-        let mut dry = sheet.dry as i64 - g;
+        let mut dry = halves(sheet.dry) - g;
         if sheet.nlp != 0 {
-            dry = dry.min(sheet.nlp as i64 - n);
+            dry = dry.min(halves(sheet.nlp) - n);
         }
         Limits {
             steps: Steps {
                 low: sheet.front_least.div_ceil(sheet.front_step) as i64,
                 high: (sheet.front_most / sheet.front_step) as i64,
             },
-            step,
+            step: sheet.front_step as i64,
+            factor,
             dry,
-            wet: sheet.wet as i64 - g,
+            wet: halves(sheet.wet) - g,
             forward: Line {
-                factor: (fwd - front) * step,
+                factor: (fwd - front) * factor,
                 room: m - fwd * g,
                 rear: rear - fwd,
                 water: water - fwd,
             },
             aft: Line {
-                factor: (20 * front - safe) * step,
+                factor: (20 * front - safe) * factor,
                 room: safe * g - 20 * m,
                 rear: safe - 20 * rear,
                 water: safe - 20 * water,
@@ -520,10 +611,11 @@ impl Limits {
     }
 
     /// The smallest and the largest front load of the row with rear load r and
-    /// water w; none where it is blank.
+    /// water w, all in grams; none where it is blank.
     fn row(&self, r: i64, w: i64) -> Option<(u32, u32)> {
+        let (r, w) = (HALVES * r, HALVES * w);
         let mut steps = self.steps;
-        steps.limit(self.step, self.dry.min(self.wet - w) - r);
+        steps.limit(self.factor, self.dry.min(self.wet - w) - r);
         steps.limit(self.forward.factor, self.forward.room(r, w));
         steps.limit(self.aft.factor, self.aft.room(r, w));
         let load = |k: i64| (k * self.step) as u32;

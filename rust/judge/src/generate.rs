@@ -7,7 +7,7 @@
 
 use crate::paper::{Call, Change, Journal, Sheet};
 use edges::edge_call;
-use files::damaged;
+use files::{any_version, damaged};
 use glider::{any_glider, lighten, seater, toy, worked_plate, Glider};
 use random::Random;
 
@@ -15,6 +15,9 @@ mod edges;
 mod files;
 mod glider;
 mod random;
+
+/// Half grams in a gram.
+const HALVES: i64 = 2;
 
 /// Greatest weight, as a signed and as an unsigned number, greatest arm and
 /// greatest load of a seat.
@@ -106,7 +109,7 @@ fn realistic_case(random: &mut Random) -> Vec<Call> {
         calls.push(Call::Undo);
     }
     if random.one_in(12) {
-        calls.push(Call::Weigh(glider.weigh(random)));
+        calls.push(glider.weighing_call(random));
     }
     calls
 }
@@ -285,7 +288,7 @@ fn some_journal(random: &mut Random) -> Journal {
     let mut calls = glider.record(random);
     while calls.len() < length {
         calls.push(match random.below(8) {
-            0 => Call::Weigh(glider.weigh(random)),
+            0 => glider.weighing_call(random),
             1 => Call::Install(glider.sheet),
             _ => Call::Change(glider.part(random)),
         });
@@ -294,8 +297,8 @@ fn some_journal(random: &mut Random) -> Journal {
     run(&calls)
 }
 
-/// Good and damaged files read back, on a fresh record or over another one,
-/// mostly as the last word.
+/// Good and damaged files of either version read back, on a fresh record or over
+/// another one, mostly as the last word.
 fn files_case(random: &mut Random) -> Vec<Call> {
     let mut calls = Vec::new();
     if random.one_in(3) {
@@ -303,7 +306,7 @@ fn files_case(random: &mut Random) -> Vec<Call> {
     }
     let journal = some_journal(random);
     calls.push(Call::Read(if random.one_in(3) {
-        journal.file()
+        any_version(random, &journal)
     } else {
         damaged(random, &journal)
     }));
@@ -337,7 +340,7 @@ impl List {
             return Call::Undo;
         }
         match random.below(20) {
-            0..=2 => Call::Weigh(glider.weigh(random)),
+            0..=2 => glider.weighing_call(random),
             3..=5 => Call::Install(glider.sheet),
             6..=7 => edge_call(random, &glider, &self.journal),
             8 => {
@@ -353,7 +356,7 @@ impl List {
         self.journal.call(&call);
         self.calls.push(call);
         if random.one_in(4) {
-            self.files.push(self.journal.file());
+            self.files.push(any_version(random, &self.journal));
         }
     }
 }
@@ -416,7 +419,7 @@ fn spread_rows(random: &mut Random, s: &mut Sheet) {
 /// Odd front loads and tight weights: no step at all, least 0, DRY below G, the
 /// non-lifting limit tight.
 fn odd_front(random: &mut Random, glider: &mut Glider) {
-    let (g, n) = (glider.g as u64, glider.n as u64);
+    let (g, n) = (glider.grams() as u64, glider.n as u64);
     let s = &mut glider.sheet;
     let room = s.front_most + s.rear_most / 2;
     match random.below(10) {

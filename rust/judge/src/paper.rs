@@ -1,10 +1,15 @@
-//! Paper 01 by plain loops.
+//! Paper 01 by plain loops, and card 1 of paper 02 with it.
 //!
 //! Every rule stands here as the paper words it, under the paper's heading, and
 //! every number is an `i128`, so that no argument can overflow a test. Nothing
 //! is solved: a row tries each step of the front load in turn.
 //!
-//! Readings of the paper, where its words leave room:
+//! Card 1, "both readings stay": a weighing may have two readings, totals and
+//! moments are sums over both and so in half grams, and "a plain weighing counts
+//! as a pair of equals". What is given stays in grams, and every other weight is
+//! doubled where it meets such a sum.
+//!
+//! Readings of the papers, where their words leave room:
 //!
 //! - FWD < AFT is a range of the sheet and not the range of an arm ("an arm lies
 //!   in −2,000,000..2,000,000"), so a sheet that breaks it is refused with 4.
@@ -19,6 +24,15 @@
 //!   least front load. "A front load of 0 counts as a load" where least is 0.
 //! - A file is a whole one: with a byte over or missing it is none.
 //! - Reading back does not ask whether the record is full: it replaces it.
+//! - Of a pair all conditions of one number count together too: a fault of the
+//!   second reading under number 1 comes before one of the first under 3.
+//! - The least total after a change is doubled like the greatest: 2 half grams.
+//!   The water left aboard is still tried by whole grams.
+//! - The centre's total and moment are the sums in half grams.
+//! - A file of version 1 has no pairs; there is no version but 1 and 2.
+
+// Half grams in a gram.
+const HALVES: i128 = 2;
 
 // Limits: greatest weight, arm and seat load, and the counts.
 const WEIGHT: i128 = 2_000_000;
@@ -27,9 +41,12 @@ const LOAD: i128 = 500_000;
 const MOST_ROWS: i128 = 256;
 const MOST_ENTRIES: usize = 64;
 
-// Bytes of a placard's line, and the file's version.
+// Bytes of a placard's line.
 const LINE: usize = 36;
-const VERSION: u8 = 1;
+
+// The version that is written, and the older one, which is still read.
+const VERSION: u8 = 2;
+const OLD_VERSION: u8 = 1;
 
 // Numbers of refusal, by the trade's words.
 const ACCEPTED: u64 = 0;
@@ -58,6 +75,27 @@ pub struct Weighing {
     pub p: u64,
     /// Second reading, in grams.
     pub q: u64,
+    /// Signed distance of the first support from the datum.
+    pub a: i64,
+    /// Distance between the supports.
+    pub b: u64,
+    /// Non-lifting weight, in grams.
+    pub n: u64,
+}
+
+/// A paired weighing: the glider was disturbed and the scales read again.
+#[derive(Clone, Copy, Debug, PartialEq, Eq)]
+pub struct Paired {
+    /// Method, 1 to 4.
+    pub m: u64,
+    /// First reading p, in grams.
+    pub p: u64,
+    /// First reading q, in grams.
+    pub q: u64,
+    /// Second reading p', in grams.
+    pub p2: u64,
+    /// Second reading q', in grams.
+    pub q2: u64,
     /// Signed distance of the first support from the datum.
     pub a: i64,
     /// Distance between the supports.
@@ -121,6 +159,8 @@ pub enum Entry {
     Sheet(Sheet),
     /// Equipment was changed.
     Change(Change),
+    /// The glider was weighed twice.
+    Paired(Paired),
 }
 
 /// A call on the record.
@@ -128,6 +168,8 @@ pub enum Entry {
 pub enum Call {
     /// Add a weighing.
     Weigh(Weighing),
+    /// Add a paired weighing.
+    Pair(Paired),
     /// Add a data sheet.
     Install(Sheet),
     /// Add a change.
@@ -141,9 +183,9 @@ pub enum Call {
 /// The empty centre of gravity and what it comes from.
 #[derive(Clone, Copy, Debug, PartialEq, Eq)]
 pub struct Centre {
-    /// Total weight G.
+    /// Total weight G, in half grams.
     pub total: u64,
-    /// Moment M.
+    /// Moment M, in half grams times hundredths of a millimetre.
     pub moment: i64,
     /// M/G to the nearest unit, halves towards the tail.
     pub centre: i64,
@@ -172,7 +214,7 @@ pub struct Journal {
 
 // ---- The record ----
 
-/// G, M and n.
+/// G, M and n, in half grams.
 #[derive(Clone, Copy, Debug)]
 pub(crate) struct Sums {
     pub(crate) g: i128,
@@ -180,7 +222,28 @@ pub(crate) struct Sums {
     pub(crate) n: i128,
 }
 
-/// G of a weighing; of any method beside 1 to 3 as of method 4.
+/// Two readings of a glider, each a weighing with what they have in common.
+type Readings = [Weighing; 2];
+
+/// "A plain weighing counts as a pair of equals".
+fn alike(w: &Weighing) -> Readings {
+    [*w, *w]
+}
+
+/// The two pairs of readings of a paired weighing.
+fn both(x: &Paired) -> Readings {
+    let reading = |p, q| Weighing {
+        m: x.m,
+        p,
+        q,
+        a: x.a,
+        b: x.b,
+        n: x.n,
+    };
+    [reading(x.p, x.q), reading(x.p2, x.q2)]
+}
+
+/// G of one reading, in grams; of any method beside 1 to 3 as of method 4.
 fn total(w: &Weighing) -> i128 {
     let (p, q) = (i128::from(w.p), i128::from(w.q));
     match w.m {
@@ -190,24 +253,31 @@ fn total(w: &Weighing) -> i128 {
     }
 }
 
-/// G, M and n of an accepted weighing.
-fn weighed(w: &Weighing) -> Sums {
+/// M of one reading, in grams.
+fn moment(w: &Weighing) -> i128 {
     let (p, q) = (i128::from(w.p), i128::from(w.q));
     let (a, b) = (i128::from(w.a), i128::from(w.b));
     let g = total(w);
-    let m = match w.m {
+    match w.m {
         1 => p * a + q * b,
         2 => (p - q) * b - p * a,
         3 => q * b - g * a,
         _ => g * a - q * b,
-    };
-    let n = i128::from(w.n);
-    Sums { g, m, n }
+    }
+}
+
+/// "The sums over both pairs, in half grams", of an accepted weighing.
+fn weighed(readings: &Readings) -> Sums {
+    Sums {
+        g: readings.iter().map(total).sum(),
+        m: readings.iter().map(moment).sum(),
+        n: readings.iter().map(|w| i128::from(w.n)).sum(),
+    }
 }
 
 /// G, M and n after a change.
 fn changed(before: Sums, change: &Change) -> Sums {
-    let (c, arm) = (i128::from(change.c), i128::from(change.arm));
+    let (c, arm) = (HALVES * i128::from(change.c), i128::from(change.arm));
     Sums {
         g: before.g + c,
         m: before.m + c * arm,
@@ -229,8 +299,22 @@ fn is_weight(weight: i128) -> bool {
     (0..=WEIGHT).contains(&weight)
 }
 
-fn is_total(g: i128) -> bool {
-    (1..=WEIGHT).contains(&g)
+/// Whether one reading keeps to number 1, in grams.
+fn is_reading(w: &Weighing) -> bool {
+    let method = (1..=4).contains(&w.m);
+    let readings = is_weight(i128::from(w.p)) && is_weight(i128::from(w.q));
+    let part_of_total = w.q <= w.p || (w.m != 1 && w.m != 2);
+    method && readings && part_of_total && (1..=WEIGHT).contains(&total(w))
+}
+
+/// Whether a and b keep to number 2.
+fn are_distances(w: &Weighing) -> bool {
+    is_arm(w.a) && (1..=ARM).contains(&i128::from(w.b))
+}
+
+/// Whether the sums after a change keep to number 6.
+fn is_total(sums: &Sums) -> bool {
+    (HALVES..=HALVES * WEIGHT).contains(&sums.g)
 }
 
 /// Rows of a sheet whose steps are in their ranges: rear loads, waters.
@@ -279,7 +363,8 @@ impl Journal {
     /// the paper has it.
     pub fn call(&mut self, call: &Call) -> u64 {
         match call {
-            Call::Weigh(w) => self.add(self.weighing_number(w), Entry::Weighing(*w)),
+            Call::Weigh(w) => self.add(self.weighing_number(&alike(w)), Entry::Weighing(*w)),
+            Call::Pair(x) => self.add(self.weighing_number(&both(x)), Entry::Paired(*x)),
             Call::Install(s) => self.add(self.sheet_number(s), Entry::Sheet(*s)),
             Call::Change(c) => self.add(self.change_number(c), Entry::Change(*c)),
             Call::Undo => match self.entries.pop() {
@@ -308,22 +393,19 @@ impl Journal {
         self.entries.len() >= MOST_ENTRIES
     }
 
-    /// Order: weighing 9, 1, 2, 3.
-    fn weighing_number(&self, w: &Weighing) -> u64 {
-        let (p, q) = (i128::from(w.p), i128::from(w.q));
+    /// Order: weighing 9, 1, 2, 3. "Each pair passes the old checks and n is at
+    /// most the smaller total".
+    fn weighing_number(&self, readings: &Readings) -> u64 {
         if self.is_full() {
             return FULL;
         }
-        let method = (1..=4).contains(&w.m);
-        let readings = is_weight(p) && is_weight(q);
-        let part_of_total = q <= p || (w.m != 1 && w.m != 2);
-        if !method || !readings || !part_of_total || !is_total(total(w)) {
+        if !readings.iter().all(is_reading) {
             return READING;
         }
-        if !is_arm(w.a) || !(1..=ARM).contains(&i128::from(w.b)) {
+        if !readings.iter().all(are_distances) {
             return BAD_ARM;
         }
-        if i128::from(w.n) > total(w) {
+        if !readings.iter().all(|w| i128::from(w.n) <= total(w)) {
             return NON_LIFTING;
         }
         ACCEPTED
@@ -361,7 +443,7 @@ impl Journal {
         let c = i128::from(change.c);
         let after = changed(before, change);
         let weight = (-WEIGHT..=WEIGHT).contains(&c) && c != 0;
-        if !weight || change.flag > 1 || !is_total(after.g) {
+        if !weight || change.flag > 1 || !is_total(&after) {
             return CHANGE;
         }
         if !(0..=after.g).contains(&after.n) {
@@ -376,7 +458,8 @@ impl Journal {
         let mut sums = None;
         for entry in &self.entries {
             match entry {
-                Entry::Weighing(w) => sums = Some(weighed(w)),
+                Entry::Weighing(w) => sums = Some(weighed(&alike(w))),
+                Entry::Paired(x) => sums = Some(weighed(&both(x))),
                 Entry::Change(c) => sums = sums.map(|before| changed(before, c)),
                 Entry::Sheet(_) => {}
             }
@@ -398,7 +481,7 @@ impl Journal {
     /// The empty centre of gravity; refused with 7 where nothing was weighed.
     pub fn centre(&self) -> Result<Centre, u64> {
         let Sums { g, m, .. } = self.sums().ok_or(UNWEIGHED)?;
-        // Halves towards the tail: M/G + 1/2 rounded down. G is at least 1.
+        // Halves towards the tail: M/G + 1/2 rounded down. G is at least 2.
         let centre = (2 * m + g).div_euclid(2 * g);
         Ok(Centre {
             total: g as u64,
@@ -410,12 +493,15 @@ impl Journal {
 
 // ---- A row ----
 
-/// The lines of "A row" for one front load p, rear load r and water v aboard.
+/// The lines of "A row" for one front load p, rear load r and water v aboard:
+/// "every other weight and weight limit is doubled" with G, M and n.
 fn keeps(sums: &Sums, sheet: &Sheet, p: i128, r: i128, v: i128) -> bool {
     let Sums { g, m, n } = *sums;
+    let (p, r, v) = (HALVES * p, HALVES * r, HALVES * v);
+    let dry = HALVES * i128::from(sheet.dry);
+    let wet = HALVES * i128::from(sheet.wet);
+    let nlp = HALVES * i128::from(sheet.nlp);
     let (fwd, aft) = (i128::from(sheet.fwd), i128::from(sheet.aft));
-    let (dry, wet) = (i128::from(sheet.dry), i128::from(sheet.wet));
-    let nlp = i128::from(sheet.nlp);
     let front_arm = i128::from(sheet.front_arm);
     let rear_arm = i128::from(sheet.rear_arm);
     let water_arm = i128::from(sheet.water_arm);
@@ -584,11 +670,25 @@ fn change_bytes(change: &Change) -> Vec<u8> {
     [&[3], fields.as_flattened(), &[change.flag as u8]].concat()
 }
 
+fn paired_bytes(x: &Paired) -> Vec<u8> {
+    let fields = [
+        unsigned(x.p),
+        unsigned(x.q),
+        unsigned(x.p2),
+        unsigned(x.q2),
+        signed(x.a),
+        unsigned(x.b),
+        unsigned(x.n),
+    ];
+    [&[4, x.m as u8], fields.as_flattened()].concat()
+}
+
 fn entry_bytes(entry: &Entry) -> Vec<u8> {
     match entry {
         Entry::Weighing(w) => weighing_bytes(w),
         Entry::Sheet(s) => sheet_bytes(s),
         Entry::Change(c) => change_bytes(c),
+        Entry::Paired(x) => paired_bytes(x),
     }
 }
 
@@ -618,12 +718,13 @@ impl Fields<'_> {
             .map(|field| i64::from(i32::from_be_bytes(field)))
     }
 
-    /// The next entry, as the call that would add it.
-    fn entry(&mut self) -> Option<Call> {
+    /// The next entry of a file of a version, as the call that would add it.
+    fn entry(&mut self, version: u8) -> Option<Call> {
         match self.byte()? {
             1 => self.weighing().map(Call::Weigh),
             2 => self.sheet().map(Call::Install),
             3 => self.change().map(Call::Change),
+            4 if version == VERSION => self.paired().map(Call::Pair),
             _ => None,
         }
     }
@@ -667,16 +768,33 @@ impl Fields<'_> {
         })
     }
 
+    fn paired(&mut self) -> Option<Paired> {
+        Some(Paired {
+            m: u64::from(self.byte()?),
+            p: self.unsigned()?,
+            q: self.unsigned()?,
+            p2: self.unsigned()?,
+            q2: self.unsigned()?,
+            a: self.signed()?,
+            b: self.unsigned()?,
+            n: self.unsigned()?,
+        })
+    }
+
     /// The whole journal of a file; none where it is not laid out as the paper
     /// says or an entry gets a number.
     fn journal(&mut self) -> Option<Journal> {
         let length = self.unsigned()?;
-        if length != self.rest.len() as u64 || self.byte()? != VERSION {
+        if length != self.rest.len() as u64 {
+            return None;
+        }
+        let version = self.byte()?;
+        if version != VERSION && version != OLD_VERSION {
             return None;
         }
         let mut journal = Journal::new();
         for _ in 0..self.byte()? {
-            let call = self.entry()?;
+            let call = self.entry(version)?;
             if journal.call(&call) != ACCEPTED {
                 return None;
             }
@@ -686,9 +804,14 @@ impl Fields<'_> {
 }
 
 impl Journal {
-    /// The journal's file.
+    /// The journal's file, of version 2.
     pub fn file(&self) -> Vec<u8> {
-        let mut body = vec![VERSION, self.entries.len() as u8];
+        self.file_as(VERSION)
+    }
+
+    /// The same bytes with a version of any number; a reader may refuse it.
+    pub fn file_as(&self, version: u8) -> Vec<u8> {
+        let mut body = vec![version, self.entries.len() as u8];
         for entry in &self.entries {
             body.extend(entry_bytes(entry));
         }
@@ -731,10 +854,12 @@ mod tests {
         }
     }
 
-    /// A glider of a few hundred grams whose limits are met among its loads.
+    /// A glider of a few hundred grams, or half a gram more, whose limits are met
+    /// among its loads.
     fn small_glider(dice: &mut Dice) -> (Sums, Sheet) {
         let g = 1 + dice.below(300);
         let n = dice.below(g + 1);
+        let halves = 2 * g + dice.below(2);
         let fwd = dice.arm();
         let dry = g + dice.below(80);
         let sheet = Sheet {
@@ -756,11 +881,11 @@ mod tests {
         };
         let p = dice.below(40) as i64;
         let mean = (fwd + sheet.aft) / 2;
-        let m = mean * (g as i64 + p) - p * sheet.front_arm;
+        let m = mean * (halves as i64 + 2 * p) - 2 * p * sheet.front_arm + dice.arm();
         let sums = Sums {
-            g: g.into(),
+            g: halves.into(),
             m: m.into(),
-            n: n.into(),
+            n: (2 * n).into(),
         };
         (sums, sheet)
     }
@@ -786,9 +911,9 @@ mod tests {
     /// Case G, with what each front load would be allowed by a test.
     fn smallest_in_g(allowed: impl Fn(&Sums, &Sheet, i128) -> bool) -> Option<i128> {
         let sums = Sums {
-            g: 288_000,
-            m: 288_000 * 63_334,
-            n: 140_000,
+            g: 576_000,
+            m: 576_000 * 63_334,
+            n: 280_000,
         };
         let sheet = Sheet {
             fwd: 25_000,

@@ -4,7 +4,7 @@
 
 use crate::direct;
 use crate::generate::Case;
-use crate::paper::{Call, Centre, Change, Counts, Journal};
+use crate::paper::{Call, Centre, Change, Counts, Journal, Paired, Sheet, Weighing};
 use std::marker::PhantomData;
 
 /// A placard of more tests of the limits than this takes plain loops too long.
@@ -287,16 +287,77 @@ pub struct Plate {
     pub record: Vec<u8>,
 }
 
-/// Calls on a record that was found: an entry more and two entries less.
-static LATER: [Call; 3] = [
-    Call::Change(Change {
-        c: 700,
-        arm: -90_000,
-        flag: 1,
-    }),
-    Call::Undo,
-    Call::Undo,
+/// A part, a weighing, the same read again and a sheet, to be put into a record
+/// that was found.
+const PART: Change = Change {
+    c: 700,
+    arm: -90_000,
+    flag: 1,
+};
+const WEIGHED: Weighing = Weighing {
+    m: 1,
+    p: 288_000,
+    q: 37_300,
+    a: 9_900,
+    b: 413_000,
+    n: 146_700,
+};
+const AGAIN: Paired = Paired {
+    m: 1,
+    p: 288_000,
+    q: 37_300,
+    p2: 288_005,
+    q2: 37_280,
+    a: 9_900,
+    b: 413_000,
+    n: 146_700,
+};
+const INSTALLED: Sheet = Sheet {
+    fwd: 25_000,
+    aft: 42_500,
+    dry: 380_000,
+    wet: 450_000,
+    nlp: 240_000,
+    front_arm: -47_500,
+    front_least: 0,
+    front_most: 110_000,
+    front_step: 1_000,
+    rear_arm: 0,
+    rear_most: 0,
+    rear_step: 1,
+    water_arm: 30_000,
+    capacity: 100_000,
+    water_step: 50_000,
+};
+
+/// Bytes behind a file that is lent as it is: room for the longest entry, and more.
+pub const BEHIND: usize = 90;
+
+/// What is called on a record that was found: each call as the first, so that it
+/// meets the file in the version that it was found in, and calls that are refused.
+static LATER: [&[Call]; 6] = [
+    &[Call::Change(PART), Call::Undo, Call::Undo],
+    &[Call::Undo, Call::Pair(AGAIN)],
+    &[Call::Pair(AGAIN), Call::Change(PART)],
+    &[Call::Weigh(WEIGHED), Call::Undo],
+    &[Call::Install(INSTALLED), Call::Undo],
+    &[
+        Call::Weigh(Weighing { m: 0, ..WEIGHED }),
+        Call::Pair(Paired { p2: 0, ..AGAIN }),
+        Call::Install(Sheet {
+            dry: 0,
+            ..INSTALLED
+        }),
+        Call::Change(Change { c: 0, ..PART }),
+        Call::Read(Vec::new()),
+    ],
 ];
+
+/// The calls on what a case reads back last, where that is lent as it is: the
+/// case's fill says which.
+pub fn later(case: &Case) -> &'static [Call] {
+    LATER[usize::from(case.fill) % LATER.len()]
+}
 
 impl Trial<'_> {
     /// A case as it is meant, its calls on a fresh record.
@@ -316,10 +377,10 @@ impl Trial<'_> {
         let Some(content) = case.content() else {
             return Vec::new();
         };
-        let longer = [content, &[case.fill; 40]].concat();
+        let longer = [content, &[case.fill; BEHIND]].concat();
         [content.to_vec(), longer]
             .into_iter()
-            .flat_map(|buffer| [(buffer.clone(), &LATER[..0]), (buffer, &LATER[..])])
+            .flat_map(|buffer| [(buffer.clone(), &[][..]), (buffer, later(case))])
             .map(|(buffer, calls)| Trial {
                 buffer,
                 fresh: false,

@@ -1,14 +1,37 @@
-//! The paper's plates A to K, the figures of document 000 that it quotes, and
-//! what it says to be run.
+//! The paper's plates A to K, in half grams, the figures of document 000 that it
+//! quotes, what it says to be run, and what card 1 of paper 02 adds.
 
 mod common;
 
 use common::Both;
 use judge::direct;
-use judge::paper::{Call, Change, Journal, Sheet, Weighing};
+use judge::paper::{Call, Change, Journal, Paired, Sheet, Weighing};
 
 fn weigh(m: u64, p: u64, q: u64, a: i64, b: u64, n: u64) -> Call {
     Call::Weigh(Weighing { m, p, q, a, b, n })
+}
+
+/// A paired weighing: the readings and, in common, a, b and n.
+fn pair(m: u64, first: [u64; 2], second: [u64; 2], (a, b, n): (i64, u64, u64)) -> Call {
+    let ([p, q], [p2, q2]) = (first, second);
+    Call::Pair(Paired {
+        m,
+        p,
+        q,
+        p2,
+        q2,
+        a,
+        b,
+        n,
+    })
+}
+
+/// A weighing as the pair of itself with itself.
+fn as_pair(call: &Call) -> Call {
+    match *call {
+        Call::Weigh(Weighing { m, p, q, a, b, n }) => pair(m, [p, q], [p, q], (a, b, n)),
+        _ => panic!("{call:?} is no weighing"),
+    }
 }
 
 fn change(c: i64, arm: i64, flag: u64) -> Call {
@@ -84,25 +107,91 @@ fn range(placard: &str, line: usize) -> (&str, &str) {
     (&line[18..26], &line[27..35])
 }
 
-/// Total, moment and centre of one weighing.
-fn centre(call: Call) -> (u64, i64, i64) {
+/// Total, moment and centre of one weighing, plain or paired.
+fn centre_of(call: &Call) -> (u64, i64, i64) {
     let mut both = Both::new();
-    both.accept(&call);
+    both.accept(call);
     let centre = both.centre().unwrap();
     (centre.total, centre.moment, centre.centre)
 }
 
+/// The same, which the pair of it with itself must have too.
+fn centre(call: Call) -> (u64, i64, i64) {
+    let centre = centre_of(&call);
+    assert_eq!(centre_of(&as_pair(&call)), centre);
+    centre
+}
+
 #[test]
 fn a_to_f_total_moment_and_centre() {
-    let a = (310_000, 19_390_000_000, 62_548);
+    let a = (620_000, 38_780_000_000, 62_548);
     assert_eq!(centre(blanik()), a);
     assert_eq!(centre(weigh(2, 310_000, 280_100, -9_500, 550_000, 0)), a);
     let (total, moment, _) = centre(weigh(3, 355, 90, 50, 13_350, 0));
-    assert_eq!((total, moment), (445, 1_179_250));
+    assert_eq!((total, moment), (890, 2_358_500));
     let (total, moment, _) = centre(weigh(4, 460, 15, 3_000, 10_300, 0));
-    assert_eq!((total, moment), (445, 1_180_500));
+    assert_eq!((total, moment), (890, 2_361_000));
     assert_eq!(centre(weigh(1, 2, 1, 0, 50_001, 0)).2, 25_001);
     assert_eq!(centre(weigh(1, 2, 1, -50_001, 50_001, 0)).2, -25_000);
+}
+
+#[test]
+fn both_readings_stay() {
+    let odd = pair(1, [288_000, 0], [288_001, 0], (63_334, 500_000, 140_000));
+    assert_eq!(centre_of(&odd), (576_001, 576_001 * 63_334, 63_334));
+    // Half a gram of moment either side of the datum, over one gram.
+    assert_eq!(centre_of(&pair(1, [1, 0], [1, 1], (0, 1, 0))), (2, 1, 1));
+    assert_eq!(centre_of(&pair(1, [1, 0], [1, 1], (-1, 1, 0))), (2, -1, 0));
+    // Each method by its own readings.
+    let common = (100, 1_000, 5);
+    assert_eq!(centre_of(&pair(1, [30, 4], [31, 5], common)).1, 15_100);
+    assert_eq!(centre_of(&pair(2, [30, 4], [31, 5], common)).1, 45_900);
+    assert_eq!(centre_of(&pair(3, [30, 4], [31, 5], common)).1, 2_000);
+    assert_eq!(centre_of(&pair(4, [30, 4], [31, 5], common)).1, -3_800);
+}
+
+/// Totals of 288,000 and 288,001 g under 380 kg leave 91 kg, and not 92.
+#[test]
+fn half_a_gram_over_is_over() {
+    let astir_again = |first, second| {
+        let mut both = Both::new();
+        both.accept(&pair(
+            1,
+            [first, 0],
+            [second, 0],
+            (63_334, 500_000, 140_000),
+        ));
+        both.accept(&Call::Install(ASTIR));
+        both.placard_text()
+    };
+    assert_eq!(
+        range(&astir_again(288_000, 288_001), 0),
+        ("0071.000", "0091.000")
+    );
+    for (first, second) in [(288_000, 288_000), (287_999, 288_001)] {
+        assert_eq!(
+            range(&astir_again(first, second), 0),
+            ("0071.000", "0092.000")
+        );
+    }
+}
+
+/// 2 half grams are a gram, and 1 is none.
+#[test]
+fn what_a_change_leaves_is_in_half_grams() {
+    for (first, second, c, number) in [
+        (3, 4, -3, 6),
+        (3, 4, -2, 0),
+        (3, 3, -2, 0),
+        (3, 3, -3, 6),
+        (1_999_999, 2_000_000, 1, 6),
+        (1_999_999, 1_999_999, 1, 0),
+        (1_999_998, 1_999_999, 1, 0),
+    ] {
+        let mut both = Both::new();
+        both.accept(&pair(1, [first, 0], [second, 0], (0, 1, 0)));
+        assert_eq!(both.call(&change(c, 0, 0)), number, "{first} {second} {c}");
+    }
 }
 
 #[test]
@@ -153,10 +242,10 @@ fn j_prints_three_rear_loads() {
 
 #[test]
 fn k_is_six_bytes() {
-    assert_eq!(Journal::new().file(), [0, 0, 0, 2, 1, 0]);
+    assert_eq!(Journal::new().file(), [0, 0, 0, 2, 2, 0]);
     let mut buffer = [9; 8];
     assert_eq!(direct::fresh(&mut buffer), 0);
-    assert_eq!(buffer, [0, 0, 0, 2, 1, 0, 9, 9]);
+    assert_eq!(buffer, [0, 0, 0, 2, 2, 0, 9, 9]);
 }
 
 #[test]
@@ -201,9 +290,13 @@ fn the_64th_and_the_65th_entry() {
     for i in 1..64 {
         both.accept(&change(if i % 2 == 1 { 500 } else { -500 }, -20_000, 0));
     }
-    for call in [astir(), Call::Install(ASTIR), change(1, 0, 0)] {
+    let pair = as_pair(&astir());
+    for call in [astir(), pair.clone(), Call::Install(ASTIR), change(1, 0, 0)] {
         assert_eq!(both.call(&call), 9);
     }
+    both.accept(&Call::Undo);
+    both.accept(&pair);
+    assert_eq!(both.call(&pair), 9);
     both.accept(&Call::Undo);
     both.accept(&Call::Install(ASTIR));
     assert_eq!(both.call(&change(1, 0, 0)), 9);
@@ -267,4 +360,26 @@ fn one_byte_too_few() {
     let mut short = vec![7; file.len() - 1];
     assert_eq!(direct::call(&mut short, &Call::Read(file)), 11);
     assert!(short.iter().all(|byte| *byte == 7));
+}
+
+/// The file of version 1 of a record without pairs is read, and none other.
+#[test]
+fn files_of_version_1() {
+    let mut both = Both::new();
+    both.accept(&astir());
+    both.accept(&Call::Install(ASTIR));
+    let (old, new) = (both.journal.file_as(1), both.journal.file());
+    assert_eq!((old.len(), &old[5..]), (new.len(), &new[5..]));
+    for version in [0, 3, 4, 255] {
+        let file = both.journal.file_as(version);
+        assert_eq!(both.call(&Call::Read(file)), 12);
+    }
+    let placard = both.placard_text();
+    both.accept(&Call::Read(old));
+    assert_eq!(both.buffer[..new.len()], new);
+    assert_eq!(both.placard_text(), placard);
+    both.accept(&as_pair(&astir()));
+    let (old, new) = (both.journal.file_as(1), both.journal.file());
+    assert_eq!(both.call(&Call::Read(old)), 12);
+    assert_eq!(both.call(&Call::Read(new)), 0);
 }

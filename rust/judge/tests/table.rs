@@ -5,12 +5,23 @@ mod common;
 
 use common::Both;
 use judge::direct;
-use judge::paper::{Call, Change, Sheet, Weighing};
+use judge::paper::{Call, Change, Paired, Sheet, Weighing};
 
 const WEIGHING: Weighing = Weighing {
     m: 1,
     p: 300_000,
     q: 20_000,
+    a: 10_000,
+    b: 500_000,
+    n: 100_000,
+};
+
+const PAIRED: Paired = Paired {
+    m: 1,
+    p: 300_000,
+    q: 20_000,
+    p2: 300_010,
+    q2: 20_001,
     a: 10_000,
     b: 500_000,
     n: 100_000,
@@ -51,6 +62,10 @@ fn weigh(w: Weighing) -> u64 {
     number(Call::Weigh(w))
 }
 
+fn pair(x: Paired) -> u64 {
+    number(Call::Pair(x))
+}
+
 fn install(s: Sheet) -> u64 {
     number(Call::Install(s))
 }
@@ -83,6 +98,83 @@ fn weighing_is_refused_in_the_order_9_1_2_3() {
     assert_eq!(weigh(w), 3);
     w.n = 300_000;
     assert_eq!(weigh(w), 0);
+}
+
+/// By number, and not reading by reading.
+#[test]
+fn pair_is_refused_in_the_order_9_1_2_3() {
+    for first in [true, false] {
+        let mut x = PAIRED;
+        let (bad, other) = if first {
+            (&mut x.p, &mut x.p2)
+        } else {
+            (&mut x.p2, &mut x.p)
+        };
+        (*bad, *other) = (0, 99_999);
+        x.b = 0;
+        assert_eq!(full().call(&Call::Pair(x)), 9);
+        assert_eq!(pair(x), 1);
+        let mut x = Paired { b: 0, ..PAIRED };
+        *(if first { &mut x.p } else { &mut x.p2 }) = 99_999;
+        assert_eq!(pair(x), 2);
+        x.b = 1;
+        assert_eq!(pair(x), 3);
+        x.n = 99_999;
+        assert_eq!(pair(x), 0);
+    }
+    // One reading is out of range, and the non-lifting weight over the other.
+    let (p, q, p2, q2) = (99_999, 20_000, 0, 0);
+    assert_eq!(
+        pair(Paired {
+            p,
+            q,
+            p2,
+            q2,
+            ..PAIRED
+        }),
+        1
+    );
+    let (p, q, p2, q2) = (p2, q2, p, q);
+    assert_eq!(
+        pair(Paired {
+            p,
+            q,
+            p2,
+            q2,
+            ..PAIRED
+        }),
+        1
+    );
+}
+
+/// n is at most the smaller total, whichever reading has it.
+#[test]
+fn the_smaller_total_counts() {
+    for (m, p, q, smaller) in [
+        (1, 299_999, 20_000, 299_999),
+        (2, 299_999, 20_000, 299_999),
+        (3, 299_999, 20_000, 319_999),
+        (4, 299_999, 20_000, 279_999),
+    ] {
+        let second = Paired {
+            m,
+            p2: p,
+            q2: q,
+            ..PAIRED
+        };
+        let first = Paired { m, p, q, ..PAIRED };
+        for x in [first, second] {
+            assert_eq!(pair(Paired { n: smaller, ..x }), 0, "{x:?}");
+            assert_eq!(
+                pair(Paired {
+                    n: smaller + 1,
+                    ..x
+                }),
+                3,
+                "{x:?}"
+            );
+        }
+    }
 }
 
 #[test]
@@ -125,6 +217,7 @@ fn change_is_refused_in_the_order_9_7_2_6_3() {
     assert_eq!(change(c), 0);
 }
 
+/// Each as a weighing of its own, as the first and as the second of a pair.
 #[test]
 fn readings_by_method() {
     const TOP: u64 = 2_000_000;
@@ -151,14 +244,30 @@ fn readings_by_method() {
         (4, u64::MAX, u64::MAX - 1, 1),
         (3, u64::MAX, 2, 1),
     ] {
-        let w = Weighing {
+        let (a, b, n) = (WEIGHING.a, WEIGHING.b, 0);
+        let (p2, q2, reading) = (PAIRED.p2, PAIRED.q2, (p, q));
+        let plain = Weighing { m, p, q, a, b, n };
+        let first = Paired {
             m,
             p,
             q,
-            n: 0,
-            ..WEIGHING
+            n,
+            ..PAIRED
         };
-        assert_eq!(weigh(w), expected, "m {m} p {p} q {q}");
+        assert_eq!(weigh(plain), expected, "m {m} p {p} q {q}");
+        assert_eq!(pair(first), expected, "{first:?}");
+        let (p, q) = (p2, q2);
+        let (p2, q2) = reading;
+        let second = Paired {
+            m,
+            p,
+            q,
+            p2,
+            q2,
+            n,
+            ..PAIRED
+        };
+        assert_eq!(pair(second), expected, "{second:?}");
     }
 }
 
@@ -287,6 +396,29 @@ fn weighing_arguments_of_any_size() {
 }
 
 #[test]
+fn pair_arguments_of_any_size() {
+    let fields: [(Field<Paired, u64>, u64); 7] = [
+        (|x| &mut x.m, 1),
+        (|x| &mut x.p, 1),
+        (|x| &mut x.q, 1),
+        (|x| &mut x.p2, 1),
+        (|x| &mut x.q2, 1),
+        (|x| &mut x.b, 2),
+        (|x| &mut x.n, 3),
+    ];
+    for (field, number) in fields {
+        for value in BIG {
+            let mut x = PAIRED;
+            *field(&mut x) = value;
+            assert_eq!(pair(x), number, "{x:?}");
+        }
+    }
+    for a in BIG_SIGNED {
+        assert_eq!(pair(Paired { a, ..PAIRED }), 2);
+    }
+}
+
+#[test]
 fn sheet_arguments_of_any_size() {
     let weights: [(Field<Sheet, u64>, u64); 10] = [
         (|s| &mut s.dry, 4),
@@ -357,12 +489,18 @@ fn the_last_weighing_counts() {
     both.accept(&Call::Weigh(WEIGHING));
     both.accept(&Call::Change(CHANGE));
     let before = both.centre();
-    assert_eq!(before.unwrap().total, 301_000);
+    assert_eq!(before.unwrap().total, 602_000);
     both.accept(&Call::Weigh(Weighing {
         p: 250_000,
         ..WEIGHING
     }));
-    assert_eq!(both.centre().unwrap().total, 250_000);
+    assert_eq!(both.centre().unwrap().total, 500_000);
+    both.accept(&Call::Pair(Paired {
+        p2: 250_001,
+        ..PAIRED
+    }));
+    assert_eq!(both.centre().unwrap().total, 550_001);
+    both.accept(&Call::Undo);
     both.accept(&Call::Undo);
     assert_eq!(both.centre(), before);
 }
@@ -386,10 +524,51 @@ fn a_lent_buffer() {
     assert_eq!(buffer, written);
     // Taking back leaves the entry's bytes where they were.
     assert_eq!(direct::call(&mut buffer, &Call::Undo), 0);
-    assert_eq!(buffer[..6], [0, 0, 0, 2, 1, 0]);
+    assert_eq!(buffer[..6], [0, 0, 0, 2, 2, 0]);
     assert_eq!(buffer[6..], written[6..]);
     // Bytes that are no file are refused before the room is looked at.
     assert_eq!(direct::call(&mut tiny, &Call::Read(vec![0; 40])), 12);
     let file = written[..28].to_vec();
     assert_eq!(direct::call(&mut tiny, &Call::Read(file)), 11);
+}
+
+/// A file of version 1 is taken as it is. The first call that changes it leaves
+/// one of version 2; a refused one leaves every byte.
+#[test]
+fn a_lent_buffer_of_version_1() {
+    let mut both = Both::new();
+    both.accept(&Call::Weigh(WEIGHING));
+    let mut lent = both.journal.file_as(1);
+    lent.resize(150, 9);
+    assert_eq!(direct::check(&lent), 0);
+    assert_eq!(direct::centre(&lent), both.centre());
+    for call in [
+        Call::Weigh(Weighing { m: 0, ..WEIGHING }),
+        Call::Pair(Paired {
+            q2: 300_011,
+            ..PAIRED
+        }),
+        Call::Install(Sheet { dry: 0, ..SHEET }),
+        Call::Change(Change { c: 0, ..CHANGE }),
+        Call::Read(vec![0; 6]),
+    ] {
+        let mut after = lent.clone();
+        assert_ne!(direct::call(&mut after, &call), 0);
+        assert_eq!(after, lent);
+    }
+    let old = lent[..28].to_vec();
+    for call in [
+        Call::Weigh(WEIGHING),
+        Call::Pair(PAIRED),
+        Call::Install(SHEET),
+        Call::Change(CHANGE),
+        Call::Undo,
+        Call::Read(old),
+    ] {
+        let (mut after, mut journal) = (lent.clone(), both.journal.clone());
+        assert_eq!(direct::call(&mut after, &call), 0);
+        assert_eq!(journal.call(&call), 0);
+        let file = journal.file();
+        assert_eq!((after[4], &after[..file.len()]), (2, &file[..]));
+    }
 }

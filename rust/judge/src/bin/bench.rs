@@ -8,16 +8,22 @@
 //! the direct functions of this package. Each line runs both sides in turn, in
 //! rounds of some milliseconds, so that what else the machine does meets both;
 //! what counts is the ratio of each round.
+//!
+//! Each side works on records that it has written itself. So the instructions of
+//! an archive from before paired weighings can be counted as well, by the same
+//! lines but one: with `NODHULIKA_LIB_DIR` set to its folder, and with
+//! `RUSTFLAGS="-C link-arg=-Wl,--defsym=nodhulika_weigh_paired=0"`.
 
 #![forbid(unsafe_code)]
 
 use judge::generate::{case, Case};
-use judge::paper::{Call, Change, Counts, Sheet, Weighing};
+use judge::paper::{Call, Change, Counts, Paired, Sheet, Weighing};
 use judge::run::{front_file, Calls, Direct};
 use library::Library;
 use std::env;
 use std::hint::black_box;
 use std::io::ErrorKind;
+use std::marker::PhantomData;
 use std::process::{Command, ExitCode};
 use std::time::{Duration, Instant};
 
@@ -36,23 +42,30 @@ const POINT_ROUND: Duration = Duration::from_millis(4);
 const LONGEST_FILE: usize = 3_910;
 const LONGEST_PLACARD: usize = 9_216;
 
-/// A record that entries are put into.
-struct Builder {
+/// A record that entries are put into, by the side that will work on it.
+struct Builder<C> {
     buffer: Vec<u8>,
     entries: usize,
+    calls: PhantomData<C>,
 }
 
-impl Builder {
-    fn new() -> Builder {
+impl<C: Calls> Builder<C> {
+    fn new() -> Builder<C> {
         let mut buffer = vec![0; LONGEST_FILE];
-        assert_eq!(Direct::fresh(&mut buffer), 0);
-        Builder { buffer, entries: 0 }
+        assert_eq!(C::fresh(&mut buffer), 0);
+        Builder {
+            buffer,
+            entries: 0,
+            calls: PhantomData,
+        }
     }
 
     /// Whether the entry was accepted.
     fn add(&mut self, call: &Call) -> bool {
-        let accepted = Direct::call(&mut self.buffer, call) == 0;
-        self.entries += usize::from(accepted);
+        let accepted = C::call(&mut self.buffer, call) == 0;
+        if accepted {
+            self.entries += 1;
+        }
         accepted
     }
 
@@ -85,6 +98,18 @@ const WEIGHING: Weighing = Weighing {
     m: 1,
     p: 420_000,
     q: 38_000,
+    a: 12_500,
+    b: 525_000,
+    n: 190_000,
+};
+
+/// The same read again.
+const PAIRED: Paired = Paired {
+    m: 1,
+    p: 420_000,
+    q: 38_000,
+    p2: 420_015,
+    q2: 37_990,
     a: 12_500,
     b: 525_000,
     n: 190_000,
@@ -161,8 +186,8 @@ static LAST_CALL: Call = Call::Change(Change {
 static UNDO: Call = Call::Undo;
 
 /// Weighing, changes, sheet: so many entries in all.
-fn two_seater(entries: usize, rows: usize) -> Vec<u8> {
-    let mut record = Builder::new();
+fn two_seater<C: Calls>(entries: usize, rows: usize) -> Vec<u8> {
+    let mut record = Builder::<C>::new();
     record.put(&Call::Weigh(WEIGHING));
     record.change(&mut PARTS.iter().cycle(), entries - 1);
     record.put(&sheet(rows));
@@ -183,9 +208,24 @@ fn glider(i: usize) -> Case {
     case(SEED, (KINDS * i + kind) as u64)
 }
 
-/// A fleet of gliders with 1 to 64 entries, as many of each. The changes are
-/// those of all gliders in turn. With one entry there is no placard.
-fn fleet() -> Vec<Vec<u8>> {
+/// The call with one reading, where it has two.
+fn plain(call: &Call) -> Call {
+    match call {
+        Call::Pair(x) => Call::Weigh(Weighing {
+            m: x.m,
+            p: x.p,
+            q: x.q,
+            a: x.a,
+            b: x.b,
+            n: x.n,
+        }),
+        other => other.clone(),
+    }
+}
+
+/// A fleet of gliders with 1 to 64 entries, as many of each, weighed once. The
+/// changes are those of all gliders in turn. With one entry there is no placard.
+fn fleet<C: Calls>() -> Vec<Vec<u8>> {
     let gliders: Vec<Case> = (0..GLIDERS).map(glider).collect();
     let part = |call: &Call| match call {
         Call::Change(change) => Some(*change),
@@ -199,9 +239,9 @@ fn fleet() -> Vec<Vec<u8>> {
     let mut parts = parts.iter().cycle();
     let record = |(i, glider): (usize, &Case)| {
         let entries = 1 + i % 64;
-        let mut record = Builder::new();
+        let mut record = Builder::<C>::new();
         for call in glider.calls.iter().take(entries.min(2)) {
-            record.put(call);
+            record.put(&plain(call));
         }
         record.change(&mut parts, entries);
         record.file()
@@ -226,10 +266,12 @@ enum Job {
     RefusedChange,
     /// The placards of all gliders of a fleet.
     Fleet,
+    /// Reading the file of 64 paired weighings.
+    CheckPairs,
 }
 
 /// The lines of the benchmark.
-const LINES: [(&str, Job); 6] = [
+const LINES: [(&str, Job); 7] = [
     (
         "a. placard of 256 rows, 64 entries",
         Job::Placard {
@@ -245,7 +287,17 @@ const LINES: [(&str, Job); 6] = [
     ("c. a call on 64 entries: undo, change", Job::UndoAndChange),
     ("c. a change refused with 9", Job::RefusedChange),
     ("d. placards of 4,000 gliders", Job::Fleet),
+    ("e. reading 64 paired weighings", Job::CheckPairs),
 ];
+
+/// Those that the linked library can run: paired weighings came with version 2 of
+/// the file.
+fn lines() -> Vec<(&'static str, Job)> {
+    let file = Builder::<Library>::new().file();
+    let has_pairs = file[4] >= 2;
+    let runs = |job| has_pairs || !matches!(job, Job::CheckPairs);
+    LINES.into_iter().filter(|(_, job)| runs(*job)).collect()
+}
 
 /// What a job works on, and where it writes.
 #[derive(Clone, PartialEq)]
@@ -263,22 +315,25 @@ impl Job {
         }
     }
 
-    fn desk(self) -> Desk {
+    fn desk<C: Calls>(self) -> Desk {
+        let mut record = Builder::<C>::new();
         let records = match self {
-            Job::Placard { entries, rows } => vec![two_seater(entries, rows)],
+            Job::Placard { entries, rows } => vec![two_seater::<C>(entries, rows)],
             Job::CheckSheets => {
-                let mut record = Builder::new();
                 while record.add(&sheet(256)) {}
                 vec![record.file()]
             }
+            Job::CheckPairs => {
+                while record.add(&Call::Pair(PAIRED)) {}
+                vec![record.file()]
+            }
             Job::CheckChanges | Job::UndoAndChange | Job::RefusedChange => {
-                let mut record = Builder::new();
                 record.put(&Call::Weigh(WEIGHING));
                 record.put(&sheet(256));
                 record.change(&mut PARTS.iter().cycle(), 64);
                 vec![record.file()]
             }
-            Job::Fleet => fleet(),
+            Job::Fleet => fleet::<C>(),
         };
         Desk {
             records,
@@ -295,7 +350,9 @@ impl Job {
                 .map(|record| C::placard(black_box(record), black_box(plate)))
                 .map(|answer| answer.map_or_else(|number| number, |counts| counts.blank as u64))
                 .sum(),
-            Job::CheckSheets | Job::CheckChanges => C::check(black_box(&records[0])),
+            Job::CheckSheets | Job::CheckChanges | Job::CheckPairs => {
+                C::check(black_box(&records[0]))
+            }
             Job::UndoAndChange => {
                 let record = black_box(&mut records[0]);
                 C::call(record, black_box(&UNDO)) + C::call(record, black_box(&LAST_CALL))
@@ -313,8 +370,9 @@ impl Job {
 
     /// Both sides must answer the same, as expected, and leave the same bytes.
     fn assert_same(self) {
-        let desk = self.desk();
-        let (mut library, mut plain) = (desk.clone(), desk.clone());
+        let desk = self.desk::<Direct>();
+        let (mut library, mut plain) = (self.desk::<Library>(), desk.clone());
+        assert!(library == desk);
         let answer = self.run::<Library>(&mut library);
         assert_eq!(answer, self.run::<Direct>(&mut plain));
         match self {
@@ -374,7 +432,7 @@ struct Rounds {
 impl Rounds {
     /// Both sides in turn; the one that begins changes too.
     fn of(job: Job) -> Rounds {
-        let desk = &mut job.desk();
+        let desk = &mut job.desk::<Library>();
         let times = times_in::<Direct>(job, desk, ROUND);
         let (mut library, mut plain) = (Vec::new(), Vec::new());
         for round in 0..ROUNDS {
@@ -400,7 +458,7 @@ fn medians(jobs: &[Job]) -> Vec<f64> {
     let mut points: Vec<(Job, Desk, u32, Vec<f64>)> = jobs
         .iter()
         .map(|job| {
-            let mut desk = job.desk();
+            let mut desk = job.desk::<Library>();
             let times = times_in::<Library>(*job, &mut desk, POINT_ROUND);
             (*job, desk, times, Vec::new())
         })
@@ -472,7 +530,7 @@ fn print_cells<const N: usize>(cells: [String; N]) {
 fn print_lines() {
     println!("| | library, ns | plain Rust, ns | ratio | quartiles | extremes |");
     println!("|---|---:|---:|---:|---:|---:|");
-    for (name, job) in LINES {
+    for (name, job) in lines() {
         job.assert_same();
         let rounds = Rounds::of(job);
         let [least, lower, ratio, upper, greatest] = spread(rounds.ratios());
@@ -490,7 +548,7 @@ fn print_lines() {
 
 /// What the fleet is like.
 fn print_fleet() {
-    let Desk { records, mut plate } = Job::Fleet.desk();
+    let Desk { records, mut plate } = Job::Fleet.desk::<Direct>();
     let entries: u64 = records.iter().map(|record| u64::from(record[5])).sum();
     let counts: Vec<Counts> = records
         .iter()
@@ -545,7 +603,7 @@ fn print_times() {
     println!("Times are medians, ratios those of the rounds.\n");
     print_lines();
     print_fleet();
-    println!("\ne. The library's placard by rows, at 64 entries:");
+    println!("\nf. The library's placard by rows, at 64 entries:");
     let rows = [1, 32, 64, 96, 128, 160, 192, 224, 256];
     print_straight("rows", "a row", &rows, |rows| Job::Placard {
         entries: 64,
@@ -582,7 +640,7 @@ const OTHERS: [Job; 3] = [
 
 /// The lines' jobs and the others, by which the hidden mode knows them.
 fn counted_jobs() -> Vec<Job> {
-    let lines = LINES.iter().map(|(_, job)| *job);
+    let lines = lines().into_iter().map(|(_, job)| job);
     lines.chain(OTHERS).collect()
 }
 
@@ -593,10 +651,9 @@ fn repeat(words: &[String]) -> Option<()> {
     };
     let job = *counted_jobs().get(job.parse::<usize>().ok()?)?;
     let times = times.parse().ok()?;
-    let desk = &mut job.desk();
     match side.as_str() {
-        "library" => job.repeat::<Library>(desk, times),
-        "plain" => job.repeat::<Direct>(desk, times),
+        "library" => job.repeat::<Library>(&mut job.desk::<Library>(), times),
+        "plain" => job.repeat::<Direct>(&mut job.desk::<Direct>(), times),
         _ => return None,
     }
     Some(())
@@ -644,10 +701,11 @@ fn print_instructions() -> Result<(), String> {
     }
     println!("| instructions | library | plain Rust | ratio |");
     println!("|---|---:|---:|---:|");
-    for ((name, _), counts) in LINES.iter().zip(&counts) {
+    let lines = lines();
+    for ((name, _), counts) in lines.iter().zip(&counts) {
         print_counts(name, *counts);
     }
-    let (placard, others) = (counts[0], &counts[LINES.len()..]);
+    let (placard, others) = (counts[0], &counts[lines.len()..]);
     let each = |more: [f64; 2], less: [f64; 2], by: f64| {
         [(more[0] - less[0]) / by, (more[1] - less[1]) / by]
     };
@@ -689,7 +747,7 @@ mod tests {
     #[test]
     fn the_placards_have_their_rows() {
         for rows in [1, 16, 256] {
-            let record = two_seater(64, rows);
+            let record = two_seater::<Direct>(64, rows);
             let counts = Direct::placard(&record, &mut [0; LONGEST_PLACARD]);
             assert_eq!(record[5], 64);
             assert_eq!(
@@ -697,12 +755,14 @@ mod tests {
                 Ok((rows, 0))
             );
         }
-        assert_eq!(Job::CheckSheets.desk().records[0].len(), LONGEST_FILE);
+        let sheets = Job::CheckSheets.desk::<Direct>();
+        assert_eq!(sheets.records[0].len(), LONGEST_FILE);
     }
 
     #[test]
     fn the_fleet_is_spread() {
-        let entries: Vec<u8> = fleet().iter().map(|record| record[5]).collect();
+        let fleet = fleet::<Direct>();
+        let entries: Vec<u8> = fleet.iter().map(|record| record[5]).collect();
         assert_eq!(entries.len(), GLIDERS);
         assert!((1..=64).all(|count| entries.contains(&count)));
     }

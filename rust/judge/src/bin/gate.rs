@@ -9,7 +9,8 @@
 //! | line | action |
 //! |---|---|
 //! | `Fresh N` | a case begins: a buffer of N bytes, all AA, and a fresh record at its front |
-//! | `weighing`, `sheet`, `change`, `undo` | the call, with its numbers as in a logbook |
+//! | `Lent HEX` | these bytes at the front of the buffer, as they are: no call, and no answer |
+//! | `weighing`, `paired`, `sheet`, `change`, `undo` | the call, with its numbers as in a logbook |
 //! | `Read HEX` | reading back these bytes; none where nothing stands behind `Read ` |
 //! | `Check` | whether a record stands |
 //! | `Centre` | the centre of gravity |
@@ -34,12 +35,16 @@
 //! left out, and the kind's next case takes the place. Left out too is a case
 //! whose placard would take plain loops too long. A number of more than eighteen
 //! digits becomes eighteen nines, which is as far out of every range.
+//!
+//! Of every second case with files the last one is not read back but lent as it
+//! is, and calls are made on it: a file of version 1 stays one until a call
+//! changes it.
 
 #![forbid(unsafe_code)]
 
-use judge::generate::case;
-use judge::paper::{Call, Centre, Change, Counts, Sheet, Weighing};
-use judge::run::{Answers, Paper, Plate, Trial};
+use judge::generate::{case, Case};
+use judge::paper::{Call, Centre, Change, Counts, Paired, Sheet, Weighing};
+use judge::run::{later, Answers, Paper, Plate, Trial, BEHIND};
 use std::collections::BTreeMap;
 use std::path::Path;
 use std::process::ExitCode;
@@ -69,8 +74,9 @@ const MOST_PLATE: usize = 9_400;
 /// Tests of the limits that a placard may take.
 const MOST_WORK: u64 = 20_000_000;
 
-/// What the buffers are filled with.
+/// What the buffers are filled with, and bytes of a fresh record.
 const FILL: u8 = 0xaa;
+const FRESH: usize = 6;
 
 // ---- Input ----
 
@@ -96,6 +102,16 @@ fn cut_call(call: Call) -> Call {
             a: cut_signed(w.a),
             b: cut(w.b),
             n: cut(w.n),
+        }),
+        Call::Pair(x) => Call::Pair(Paired {
+            m: cut(x.m),
+            p: cut(x.p),
+            q: cut(x.q),
+            p2: cut(x.p2),
+            q2: cut(x.q2),
+            a: cut_signed(x.a),
+            b: cut(x.b),
+            n: cut(x.n),
         }),
         Call::Install(s) => Call::Install(cut_sheet(s)),
         Call::Change(change) => Call::Change(Change {
@@ -142,19 +158,34 @@ fn call_line(call: &Call) -> String {
             let Weighing { m, p, q, a, b, n } = w;
             format!("weighing {m} {p} {q} {a} {b} {n}")
         }
+        Call::Pair(x) => {
+            let first = format!("{} {} {}", x.m, x.p, x.q);
+            format!("paired {first} {} {} {} {} {}", x.p2, x.q2, x.a, x.b, x.n)
+        }
         Call::Install(s) => sheet_line(s),
         Call::Change(Change { c, arm, flag }) => format!("change {c} {arm} {flag}"),
         Call::Undo => "undo".to_string(),
-        Call::Read(bytes) => {
-            let digits: String = bytes.iter().map(|byte| format!("{byte:02x}")).collect();
-            format!("Read {digits}")
-        }
+        Call::Read(bytes) => format!("Read {}", hex(bytes)),
     }
+}
+
+fn hex(bytes: &[u8]) -> String {
+    bytes.iter().map(|byte| format!("{byte:02x}")).collect()
+}
+
+/// The bytes at the front of a buffer that are not as they are filled in, the
+/// place of a fresh record's at least.
+fn front(buffer: &[u8]) -> &[u8] {
+    let filled = buffer.iter().rev().take_while(|byte| **byte == FILL);
+    &buffer[..(buffer.len() - filled.count()).max(FRESH)]
 }
 
 /// The lines of a case.
 fn input(trial: &Trial) -> String {
     let mut lines = vec![format!("Fresh {}", trial.buffer.len())];
+    if !trial.fresh {
+        lines.push(format!("Lent {}", hex(front(&trial.buffer))));
+    }
     lines.extend(trial.calls.iter().map(call_line));
     lines.push("Check".to_string());
     lines.push("Centre".to_string());
@@ -171,11 +202,12 @@ fn sum(bytes: &[u8]) -> u64 {
         .fold(0, |sum, byte| sum % 1_000_003 * 257 + u64::from(*byte))
 }
 
-/// The line of answers to a case.
+/// The line of answers to a case. What is lent has room for the fresh record that
+/// it takes the place of.
 fn output(answers: &Answers, plate: &Plate) -> String {
     let mut words: Vec<String> = Vec::new();
     let mut say = |number: u64| words.push(number.to_string());
-    answers.fresh.into_iter().for_each(&mut say);
+    say(answers.fresh.unwrap_or(0));
     answers.numbers.iter().copied().for_each(&mut say);
     say(answers.check);
     say(sum(&plate.record));
@@ -201,19 +233,35 @@ fn output(answers: &Answers, plate: &Plate) -> String {
 struct Stored {
     kind: &'static str,
     calls: Vec<Call>,
+    /// The record's buffer, where a file is lent as it is.
+    lent: Option<Vec<u8>>,
     answers: Answers,
     plate: Plate,
     input: String,
+}
+
+/// The buffer with the file that every second case with files reads back last,
+/// or none.
+fn lent(case: &Case, index: u64) -> Option<Vec<u8>> {
+    if case.kind != "files" || (index / KINDS as u64).is_multiple_of(2) {
+        return None;
+    }
+    let content = case.content()?;
+    Some([content, &[FILL; BEHIND]].concat())
 }
 
 impl Stored {
     /// The generator's case; none where plain loops would take too long.
     fn of(index: u64) -> Option<Stored> {
         let case = case(SEED, index);
-        let calls: Vec<Call> = case.calls.into_iter().map(cut_call).collect();
+        let lent = lent(&case, index);
+        let calls: Vec<Call> = match &lent {
+            Some(_) => later(&case).to_vec(),
+            None => case.calls.into_iter().map(cut_call).collect(),
+        };
         let trial = Trial {
-            buffer: vec![FILL; case.room],
-            fresh: true,
+            buffer: lent.clone().unwrap_or_else(|| vec![FILL; case.room]),
+            fresh: lent.is_none(),
             calls: &calls,
             plate: vec![FILL; case.plate],
         };
@@ -225,6 +273,7 @@ impl Stored {
         Some(Stored {
             kind: case.kind,
             calls,
+            lent,
             answers,
             plate,
             input,
@@ -289,9 +338,12 @@ fn choose() -> Vec<Stored> {
 
 // ---- Telling ----
 
-/// The entries of a full record, and where a file has its count.
+/// The entries of a full record, where a file has its version and its count, and
+/// the version that is no longer written.
 const FULL: u8 = 64;
+const VERSION: usize = 4;
 const COUNT: usize = 5;
+const OLD: u8 = 1;
 
 /// How many there are of each kind and number, and of long ones.
 #[derive(Default)]
@@ -301,8 +353,15 @@ struct Summary {
     numbers: [[usize; 4]; 13],
     /// Cases of 60 calls and more.
     many_calls: usize,
+    /// Paired weighings accepted and refused.
+    pairs: [usize; 2],
     /// Full records read back.
     full_files: usize,
+    /// Records of version 1 read back.
+    old_files: usize,
+    /// Records lent as they are, and those of version 1 among them.
+    lent: usize,
+    old_lent: usize,
 }
 
 impl Summary {
@@ -316,13 +375,21 @@ impl Summary {
         self.numbers[answers.centre.err().unwrap_or(0) as usize][2] += 1;
         self.numbers[plate.answer.err().unwrap_or(0) as usize][3] += 1;
         self.many_calls += usize::from(stored.calls.len() >= 60);
-        let answered = stored.calls.iter().zip(&answers.numbers);
-        self.full_files += answered
-            .filter(|(call, number)| match call {
-                Call::Read(file) => **number == 0 && file[COUNT] == FULL,
-                _ => false,
-            })
-            .count();
+        for (call, number) in stored.calls.iter().zip(&answers.numbers) {
+            match call {
+                Call::Pair(_) => self.pairs[usize::from(*number != 0)] += 1,
+                Call::Read(file) if *number == 0 => {
+                    self.full_files += usize::from(file[COUNT] == FULL);
+                    self.old_files += usize::from(file[VERSION] == OLD);
+                }
+                _ => {}
+            }
+        }
+        let held = answers.check == 0;
+        if let Some(file) = stored.lent.as_ref().filter(|_| held) {
+            self.lent += 1;
+            self.old_lent += usize::from(file[VERSION] == OLD);
+        }
     }
 
     fn print(&self) {
@@ -330,7 +397,12 @@ impl Summary {
             println!("{kind:10} {cases:6} cases");
         }
         println!("cases of 60 calls and more: {}", self.many_calls);
+        let [accepted, refused] = self.pairs;
+        println!("paired weighings: {accepted} accepted, {refused} refused");
         println!("full records read back: {}", self.full_files);
+        println!("records of version 1 read back: {}", self.old_files);
+        let (lent, old) = (self.lent, self.old_lent);
+        println!("records lent as they are: {lent}, {old} of them of version 1");
         println!("number    calls   checks  centres placards");
         for (number, [calls, checks, centres, placards]) in self.numbers.iter().enumerate() {
             println!("{number:6} {calls:8} {checks:8} {centres:8} {placards:8}");
@@ -413,8 +485,46 @@ mod tests {
         let (paper, answers) = trial.run::<Paper>();
         let plate = trial.placard(&paper);
         let sum = sum(&plate.record);
-        let line = format!("0 10 0 12 0 {sum} 0 2 -50001 -25000 8 170\n");
+        let line = format!("0 10 0 12 0 {sum} 0 4 -100002 -25000 8 170\n");
         assert_eq!(output(&answers, &plate), line);
+    }
+
+    /// A fresh record of version 1 that is lent, and weighed twice.
+    #[test]
+    fn lines_of_a_lent_case() {
+        let calls = [Call::Pair(Paired {
+            m: 1,
+            p: 1,
+            q: 0,
+            p2: 2,
+            q2: 1,
+            a: -1,
+            b: 1,
+            n: 0,
+        })];
+        let mut buffer = vec![FILL; 36];
+        buffer[..FRESH].copy_from_slice(&[0, 0, 0, 2, OLD, 0]);
+        let trial = Trial {
+            buffer,
+            fresh: false,
+            calls: &calls,
+            plate: Vec::new(),
+        };
+        let lines = "Fresh 36\nLent 000000020100\npaired 1 1 0 2 1 -1 1 0\n\
+                     Check\nCentre\nPlacard 0\n";
+        assert_eq!(input(&trial), lines);
+        let (paper, answers) = trial.run::<Paper>();
+        let plate = trial.placard(&paper);
+        assert_eq!(plate.record[VERSION], 2);
+        let sum = sum(&plate.record);
+        let line = format!("0 0 0 {sum} 0 3 -2 -1 8 0\n");
+        assert_eq!(output(&answers, &plate), line);
+    }
+
+    #[test]
+    fn what_is_lent_of_a_buffer() {
+        assert_eq!(front(&[0, 1, FILL, 2, 3, 4, 5, FILL, FILL]).len(), 7);
+        assert_eq!(front(&[FILL; 9]), [FILL; FRESH]);
     }
 
     #[test]

@@ -2,8 +2,8 @@
 
 use super::glider::{lighten, Glider};
 use super::random::Random;
-use super::{ARM, LOAD, TOP, WEIGHT};
-use crate::paper::{Call, Change, Journal, Sheet, Weighing};
+use super::{ARM, HALVES, LOAD, TOP, WEIGHT};
+use crate::paper::{Call, Change, Journal, Paired, Sheet, Weighing};
 
 /// A value on an edge of a range, one beyond, or far out. `good` plus 2^32 looks
 /// like `good` where it is cut to four bytes.
@@ -56,13 +56,19 @@ fn signed_edge(random: &mut Random, size: i64, good: i64) -> i64 {
     }
 }
 
-/// What the readings add up to, where they add up to anything.
-fn total(w: &Weighing) -> u64 {
-    match w.m {
-        1 | 2 => w.p,
-        3 => w.p.saturating_add(w.q),
-        _ => w.p.saturating_sub(w.q),
+/// What readings add up to by a method, where they add up to anything.
+fn total(m: u64, (p, q): (u64, u64)) -> u64 {
+    match m {
+        1 | 2 => p,
+        3 => p.saturating_add(q),
+        _ => p.saturating_sub(q),
     }
+}
+
+/// The smaller and the greater total of a paired weighing.
+fn totals(x: &Paired) -> (u64, u64) {
+    let (first, second) = (total(x.m, (x.p, x.q)), total(x.m, (x.p2, x.q2)));
+    (first.min(second), first.max(second))
 }
 
 /// One field of a weighing at an edge.
@@ -73,9 +79,24 @@ pub(super) fn edge_weighing(random: &mut Random, mut w: Weighing) -> Weighing {
         2 => w.q = edge(random, 0, TOP, w.q),
         3 => w.a = signed_edge(random, ARM, w.a),
         4 => w.b = edge(random, 1, ARM as u64, w.b),
-        _ => w.n = edge(random, 0, total(&w), w.n),
+        _ => w.n = edge(random, 0, total(w.m, (w.p, w.q)), w.n),
     }
     w
+}
+
+/// One field of a paired weighing at an edge.
+pub(super) fn edge_pair(random: &mut Random, mut x: Paired) -> Paired {
+    match random.below(9) {
+        0 => x.m = edge(random, 1, 4, x.m),
+        1 => x.p = edge(random, 0, TOP, x.p),
+        2 => x.q = edge(random, 0, TOP, x.q),
+        3 => x.p2 = edge(random, 0, TOP, x.p2),
+        4 => x.q2 = edge(random, 0, TOP, x.q2),
+        5 => x.a = signed_edge(random, ARM, x.a),
+        6 => x.b = edge(random, 1, ARM as u64, x.b),
+        _ => x.n = edge(random, 0, totals(&x).0, x.n),
+    }
+    x
 }
 
 /// Readings of methods 1 and 2, where the second is part of the first.
@@ -120,18 +141,46 @@ const HELD_DOWN: &[(u64, u64)] = &[
     (TOP + 1, 1),
 ];
 
-/// Readings at the edges that each method has for itself, with n on either side
-/// of what they add up to.
-fn edge_readings(random: &mut Random, mut w: Weighing) -> Weighing {
-    w.m = random.amount(1, 4);
-    (w.p, w.q) = random.pick(match w.m {
+/// Readings at the edges that a method has for itself.
+fn readings(random: &mut Random, m: u64) -> (u64, u64) {
+    random.pick(match m {
         1 | 2 => PART_OF_TOTAL,
         3 => TWO_SLINGS,
         _ => HELD_DOWN,
-    });
-    let total = total(&w);
+    })
+}
+
+/// Such readings, with n on either side of what they add up to.
+fn edge_readings(random: &mut Random, mut w: Weighing) -> Weighing {
+    w.m = random.amount(1, 4);
+    (w.p, w.q) = readings(random, w.m);
+    let total = total(w.m, (w.p, w.q));
     w.n = random.pick(&[0, 0, total.saturating_sub(1), total, total + 1]);
     w
+}
+
+/// The same for one reading of a pair or for both, n beside the smaller total or
+/// between the two.
+fn edge_pair_readings(random: &mut Random, mut x: Paired) -> Paired {
+    let sides = random.pick(&[(true, false), (false, true), (true, true)]);
+    if sides.0 && sides.1 {
+        x.m = random.amount(1, 4);
+    }
+    if sides.0 {
+        (x.p, x.q) = readings(random, x.m);
+    }
+    if sides.1 {
+        (x.p2, x.q2) = readings(random, x.m);
+    }
+    edge_share(random, x)
+}
+
+/// A paired weighing with n at the smaller total or one beside it, or at the
+/// greater one.
+fn edge_share(random: &mut Random, mut x: Paired) -> Paired {
+    let (smaller, greater) = totals(&x);
+    x.n = random.pick(&[0, smaller.saturating_sub(1), smaller, smaller + 1, greater]);
+    x
 }
 
 /// One field of a sheet at an edge.
@@ -204,22 +253,32 @@ pub(super) fn edge_change(random: &mut Random, mut change: Change) -> Change {
     change
 }
 
-/// A change after which G is 1, 2,000,000 or one beyond, or n is 0, G or one
-/// beyond.
+/// A change after which G is 2 or 4,000,000 half grams, or as near as whole grams
+/// come to it and to one beyond, or n is 0, G or one beyond.
 fn edge_after_change(random: &mut Random, journal: &Journal, change: Change) -> Change {
     let Some(sums) = journal.sums() else {
         return change;
     };
     let (g, n) = (sums.g as i64, sums.n as i64);
+    let (most, grams) = (HALVES * WEIGHT, |halves: i64| halves.div_euclid(HALVES));
     let (c, flag) = match random.below(3) {
         0 => {
-            let after = random.pick(&[-1, 0, 1, WEIGHT, WEIGHT + 1]);
-            (after - g, change.flag)
+            let after = random.pick(&[-2, 0, 1, 2, 3, most - 1, most, most + 1, most + 2]);
+            (grams(after - g), change.flag)
         }
-        1 => (random.pick(&[-1, 0]) - n, 1),
-        _ => (n - g + random.between(-1, 1), 0),
+        1 => (random.pick(&[-1, 0]) - grams(n), 1),
+        _ => (grams(n - g) + random.between(-1, 1), 0),
     };
     Change { c, flag, ..change }
+}
+
+fn edge_pair_call(random: &mut Random, glider: &Glider) -> Call {
+    let x = glider.pair(random);
+    Call::Pair(match random.below(5) {
+        0 | 1 => edge_pair_readings(random, x),
+        2 => edge_share(random, x),
+        _ => edge_pair(random, x),
+    })
 }
 
 fn edge_weigh_call(random: &mut Random, glider: &Glider) -> Call {
@@ -251,6 +310,7 @@ fn edge_change_call(random: &mut Random, glider: &Glider, journal: &Journal) -> 
 fn second_edge(random: &mut Random, call: Call) -> Call {
     match call {
         Call::Weigh(w) => Call::Weigh(edge_weighing(random, w)),
+        Call::Pair(x) => Call::Pair(edge_pair(random, x)),
         Call::Install(s) => Call::Install(edge_sheet(random, s)),
         Call::Change(c) => Call::Change(edge_change(random, c)),
         other => other,
@@ -259,9 +319,10 @@ fn second_edge(random: &mut Random, call: Call) -> Call {
 
 /// A call that is good but for one field at an edge, seldom for two.
 pub(super) fn edge_call(random: &mut Random, glider: &Glider, journal: &Journal) -> Call {
-    let call = match random.below(3) {
+    let call = match random.below(4) {
         0 => edge_weigh_call(random, glider),
-        1 => edge_install_call(random, glider),
+        1 => edge_pair_call(random, glider),
+        2 => edge_install_call(random, glider),
         _ => edge_change_call(random, glider, journal),
     };
     if random.one_in(5) {

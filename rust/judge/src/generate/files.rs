@@ -1,9 +1,13 @@
 //! Files with something wrong in them, or something that may be wrong.
 
-use super::edges::{edge_change, edge_sheet, edge_weighing};
+use super::edges::{edge_change, edge_pair, edge_sheet, edge_weighing};
 use super::glider::any_glider;
 use super::random::Random;
-use crate::paper::{Entry, Journal, Sheet, Weighing};
+use crate::paper::{Entry, Journal, Paired, Sheet, Weighing};
+
+/// The two versions of a file.
+const OLD: u8 = 1;
+const NEW: u8 = 2;
 
 /// Where the entries of a journal's file begin.
 fn entry_places(journal: &Journal) -> Vec<usize> {
@@ -15,9 +19,40 @@ fn entry_places(journal: &Journal) -> Vec<usize> {
             Entry::Weighing(_) => 22,
             Entry::Sheet(_) => 61,
             Entry::Change(_) => 10,
+            Entry::Paired(_) => 30,
         };
     }
     places
+}
+
+/// An entry that version 1 has: of a pair the first reading.
+fn plain(entry: &Entry) -> Entry {
+    match *entry {
+        Entry::Paired(Paired {
+            m, p, q, a, b, n, ..
+        }) => Entry::Weighing(Weighing { m, p, q, a, b, n }),
+        other => other,
+    }
+}
+
+/// A journal and a version to lay it out in. Version 1 has no pairs; seldom they
+/// stand in it all the same.
+fn laid_out(random: &mut Random, journal: &Journal) -> (Journal, u8) {
+    if random.one_in(2) {
+        return (journal.clone(), NEW);
+    }
+    let entries = if random.one_in(5) {
+        journal.entries.clone()
+    } else {
+        journal.entries.iter().map(plain).collect()
+    };
+    (Journal { entries }, OLD)
+}
+
+/// A journal's file in either version.
+pub(super) fn any_version(random: &mut Random, journal: &Journal) -> Vec<u8> {
+    let (journal, version) = laid_out(random, journal);
+    journal.file_as(version)
 }
 
 /// Sets the length field; bytes too few to have one stay as they are.
@@ -56,7 +91,7 @@ fn wrong_count(random: &mut Random, file: &mut [u8]) {
 fn wrong_kind(random: &mut Random, journal: &Journal, file: &mut [u8]) {
     let places = entry_places(journal);
     if !places.is_empty() {
-        file[random.pick(&places)] = random.pick(&[0, 4, 255, 1, 2, 3]);
+        file[random.pick(&places)] = random.pick(&[0, 5, 255, 1, 2, 3, 4]);
     }
 }
 
@@ -65,8 +100,8 @@ fn wrong_end(random: &mut Random, file: &mut Vec<u8>) {
     if random.one_in(2) {
         file.truncate(random.below(file.len() as u64) as usize);
     } else {
-        for _ in 0..random.pick(&[1, 1, 1, 10, 22]) {
-            file.push(random.pick(&[0, 1, 3, 255]));
+        for _ in 0..random.pick(&[1, 1, 1, 10, 22, 30]) {
+            file.push(random.pick(&[0, 1, 3, 4, 255]));
         }
     }
     if random.one_in(2) {
@@ -89,7 +124,7 @@ fn refused_entry(random: &mut Random, mut journal: Journal) -> Journal {
     let glider = any_glider(random);
     let (w, s, c) = (glider.weigh(random), glider.sheet, glider.part(random));
     let mut at = random.below(journal.entries.len() as u64 + 1) as usize;
-    let entry = match random.below(6) {
+    let entry = match random.below(8) {
         0 => {
             at = 0;
             Entry::Change(c)
@@ -109,6 +144,10 @@ fn refused_entry(random: &mut Random, mut journal: Journal) -> Journal {
         }
         3 => Entry::Weighing(edge_weighing(random, w)),
         4 => Entry::Sheet(edge_sheet(random, s)),
+        5 | 6 => {
+            let pair = glider.pair(random);
+            Entry::Paired(edge_pair(random, pair))
+        }
         _ => Entry::Change(edge_change(random, c)),
     };
     journal.entries.insert(at, entry);
@@ -132,17 +171,18 @@ fn stray_bytes(random: &mut Random) -> Vec<u8> {
 
 /// A journal's file with one thing wrong, or with something that may be wrong.
 pub(super) fn damaged(random: &mut Random, journal: &Journal) -> Vec<u8> {
-    let mut file = journal.file();
+    let (journal, version) = laid_out(random, journal);
+    let mut file = journal.file_as(version);
     match random.below(16) {
         0 | 1 => wrong_length(random, &mut file),
-        2 => file[4] = random.pick(&[0, 2, 255]),
+        2 => file[4] = random.pick(&[0, 3, 255, OLD, NEW]),
         3 | 4 => wrong_count(random, &mut file),
-        5 => wrong_kind(random, journal, &mut file),
+        5 => wrong_kind(random, &journal, &mut file),
         6..=8 => wrong_end(random, &mut file),
         9..=11 => wrong_byte(random, &mut file),
         12 => file = stray_bytes(random),
-        13 => file = too_many(random).file(),
-        _ => file = refused_entry(random, journal.clone()).file(),
+        13 => file = too_many(random).file_as(version),
+        _ => file = refused_entry(random, journal).file_as(version),
     }
     file
 }

@@ -1,21 +1,22 @@
 //! Gliders whose limits are met somewhere among their loads.
 
 use super::random::Random;
-use super::{ARM, LOAD, TOP, WEIGHT};
-use crate::paper::{sheet_work, Call, Change, Sheet, Weighing};
+use super::{ARM, HALVES, LOAD, TOP, WEIGHT};
+use crate::paper::{sheet_work, Call, Change, Paired, Sheet, Weighing};
 
 /// Tests of the limits that plain loops may take for a placard; one sheet in
 /// fifty is left as it is and may take more.
 const WORK: u64 = 200_000;
 
-/// A glider before it is weighed.
+/// A glider before it is weighed. Where total and moment are odd it takes two
+/// readings to weigh it exactly.
 #[derive(Clone, Copy)]
 pub(super) struct Glider {
-    /// Total weight.
+    /// Total weight, in half grams.
     pub(super) g: i64,
-    /// Moment.
+    /// Moment, in half grams times units of arm.
     pub(super) moment: i64,
-    /// Non-lifting weight.
+    /// Non-lifting weight, in grams.
     pub(super) n: i64,
     /// Data sheet.
     pub(super) sheet: Sheet,
@@ -30,21 +31,28 @@ struct Loads {
 }
 
 impl Glider {
-    fn new(g: u64, n: u64, sheet: Sheet) -> Glider {
+    /// Of g grams, or half a gram more.
+    fn new(random: &mut Random, g: u64, n: u64, sheet: Sheet) -> Glider {
         Glider {
-            g: g as i64,
+            g: HALVES * g as i64 + random.pick(&[0, 0, 1]),
             moment: 0,
             n: n as i64,
             sheet,
         }
     }
 
-    /// The weight with these loads, and the moment of the loads alone.
+    /// The total in whole grams.
+    pub(super) fn grams(&self) -> i64 {
+        self.g / HALVES
+    }
+
+    /// The weight with these loads, and the moment of the loads alone, both in
+    /// half grams.
     fn loaded(&self, loads: Loads) -> (i64, i64) {
         let Loads { p, r, v } = loads;
         let s = &self.sheet;
         let moment = p * s.front_arm + r * s.rear_arm + v * s.water_arm;
-        (self.g + p + r + v, moment)
+        (self.g + HALVES * (p + r + v), HALVES * moment)
     }
 
     /// Gives the glider the moment with which these loads stand `inside` units
@@ -72,9 +80,10 @@ impl Glider {
         }
     }
 
-    /// Meets the safe aft limit as closely as whole moments can: up to 19 g more
-    /// of glider bring the limit to a whole moment or a twentieth beside one,
-    /// and the moment stands on it, a twentieth inside or a twentieth behind.
+    /// Meets the safe aft limit as closely as whole moments can: up to 19 half
+    /// grams more of glider bring the limit to a whole moment or a twentieth
+    /// beside one, and the moment stands on it, a twentieth inside or a
+    /// twentieth behind.
     pub(super) fn meet_aft_closely(&mut self, random: &mut Random) {
         let loads = some_loads(random, &self.sheet);
         let safe = 19 * self.sheet.aft + self.sheet.fwd;
@@ -104,7 +113,7 @@ impl Glider {
         let half = s.rear_most as i64 / 2;
         let room = random.between(-step, 2 * step) + random.pick(&[0, half]);
         s.front_least = 0;
-        s.dry = (self.g + room).clamp(1, WEIGHT) as u64;
+        s.dry = (self.g / HALVES + room).clamp(1, WEIGHT) as u64;
         s.wet = s.wet.max(s.dry);
         let inside = random.between(0, 1_000_000_000);
         self.meet_aft(Loads { p: 0, r: 0, v: 0 }, inside);
@@ -135,12 +144,12 @@ impl Glider {
         (-ARM - low, ARM - high)
     }
 
-    /// Its weighing and its sheet, in either order.
+    /// Its weighing, plain or paired, and its sheet, in either order.
     pub(super) fn record(&self, random: &mut Random) -> Vec<Call> {
         let weighing = if random.one_in(3) {
             self.weigh_exactly(random)
         } else {
-            self.weigh(random)
+            self.weighing_call(random)
         };
         self.with_sheet(random, weighing)
     }
@@ -151,31 +160,80 @@ impl Glider {
         self.with_sheet(random, weighing)
     }
 
-    fn with_sheet(&self, random: &mut Random, weighing: Weighing) -> Vec<Call> {
-        let mut calls = vec![Call::Weigh(weighing), Call::Install(self.sheet)];
+    fn with_sheet(&self, random: &mut Random, weighing: Call) -> Vec<Call> {
+        let mut calls = vec![weighing, Call::Install(self.sheet)];
         calls.rotate_left(random.below(2) as usize);
         calls
     }
 
-    /// A weighing by any method that gives exactly this moment: the supports
+    /// A weighing, one time in three a paired one.
+    pub(super) fn weighing_call(&self, random: &mut Random) -> Call {
+        if random.one_in(3) {
+            Call::Pair(self.pair(random))
+        } else {
+            Call::Weigh(self.weigh(random))
+        }
+    }
+
+    /// A weighing by any method that gives exactly this total and moment: a plain
+    /// one where they are even, but for one time in four.
+    fn weigh_exactly(&self, random: &mut Random) -> Call {
+        let even = self.g % HALVES == 0 && self.moment % HALVES == 0;
+        if even && !random.one_in(4) {
+            Call::Weigh(self.plain_exactly(random))
+        } else {
+            Call::Pair(self.pair_exactly(random))
+        }
+    }
+
+    /// A plain weighing that gives this moment, or half a unit less: the supports
     /// stand one unit apart, and the second reading makes up the remainder.
-    pub(super) fn weigh_exactly(&self, random: &mut Random) -> Weighing {
+    fn plain_exactly(&self, random: &mut Random) -> Weighing {
+        let (g, moment) = (self.grams(), self.moment.div_euclid(HALVES));
+        let (arm, rest) = (moment.div_euclid(g), moment.rem_euclid(g));
+        let m = self.any_method(random);
+        let (p, q) = readings(m, g, rest);
+        self.weighing(m, p, q, exact_arm(m, arm), 1)
+    }
+
+    /// A paired weighing that gives exactly this total and moment, in the same
+    /// way: each reading makes up its part of the remainder.
+    fn pair_exactly(&self, random: &mut Random) -> Paired {
         let Glider { g, moment, .. } = *self;
         let (arm, rest) = (moment.div_euclid(g), moment.rem_euclid(g));
-        let methods = if 2 * g <= WEIGHT { 4 } else { 3 };
-        let (m, p, q, a) = match random.amount(1, methods) {
-            1 => (1, g, rest, arm),
-            2 => (2, g, g - rest, -arm),
-            3 => (3, g - rest, rest, -arm),
-            _ => (4, 2 * g - rest, g - rest, arm + 1),
-        };
-        self.weighing(m, p, q, a, 1)
+        let m = self.any_method(random);
+        let (first, second) = self.apart(random);
+        let part = random.between((rest - second).max(0), rest.min(first));
+        let parts = readings(m, first, part);
+        let others = readings(m, second, rest - part);
+        self.paired(m, parts, others, exact_arm(m, arm), 1)
+    }
+
+    /// A method whose readings are weights where the supports stand close: in
+    /// method 4 they are up to twice the total.
+    fn any_method(&self, random: &mut Random) -> u64 {
+        let methods = if 2 * self.g <= HALVES * WEIGHT { 4 } else { 3 };
+        random.amount(1, methods)
+    }
+
+    /// Two totals in grams whose sum is this one: equal or nearly so, or as far
+    /// apart as weights and the non-lifting weight let them be.
+    fn apart(&self, random: &mut Random) -> (i64, i64) {
+        let half = self.grams();
+        let far = (half - self.n.max(1)).min(WEIGHT - (self.g - half));
+        let less = random.pick(&[0, 0, 1, 5, 40, 300, 2_000, far]).min(far);
+        let totals = (half - less, self.g - half + less);
+        if random.one_in(2) {
+            totals
+        } else {
+            (totals.1, totals.0)
+        }
     }
 
     /// A weighing by any method with the supports as far apart as they are in a
     /// glider; the moment comes out to within one unit of arm.
     pub(super) fn weigh(&self, random: &mut Random) -> Weighing {
-        let Glider { g, moment, .. } = *self;
+        let (g, moment) = (self.grams(), self.moment.div_euclid(HALVES));
         let b = random.between(90_000, 600_000);
         let part = g * random.between(0, 40) / 100;
         let (m, p, q, a) = match random.amount(1, 4) {
@@ -185,9 +243,28 @@ impl Glider {
             _ => (4, g + part, part, (moment + part * b).div_euclid(g)),
         };
         if a.abs() > ARM || p > WEIGHT {
-            return self.weigh_exactly(random);
+            return self.plain_exactly(random);
         }
         self.weighing(m, p, q, a, b)
+    }
+
+    /// The same with the scales read again: once more alike, or a few grams apart
+    /// on either of them.
+    pub(super) fn pair(&self, random: &mut Random) -> Paired {
+        let w = self.weigh(random);
+        let (more, behind) = (random.between(-30, 30), random.between(-9, 9));
+        let (more, behind) = random.pick(&[(0, 0), (1, 0), (-1, 0), (0, 1), (more, behind)]);
+        let again = |reading: u64, by: i64| reading.saturating_add_signed(by).min(TOP);
+        Paired {
+            m: w.m,
+            p: w.p,
+            q: w.q,
+            p2: again(w.p, more),
+            q2: again(w.q, behind),
+            a: w.a,
+            b: w.b,
+            n: w.n,
+        }
     }
 
     fn weighing(&self, m: u64, p: i64, q: i64, a: i64, b: i64) -> Weighing {
@@ -201,10 +278,23 @@ impl Glider {
         }
     }
 
+    fn paired(&self, m: u64, first: (i64, i64), second: (i64, i64), a: i64, b: u64) -> Paired {
+        Paired {
+            m,
+            p: first.0 as u64,
+            q: first.1 as u64,
+            p2: second.0 as u64,
+            q2: second.1 as u64,
+            a,
+            b,
+            n: self.n as u64,
+        }
+    }
+
     /// A part that comes or goes, of a weight and at a place that suit the
     /// glider: a battery, an instrument, a bar of ballast, a tail wheel.
     pub(super) fn part(&self, random: &mut Random) -> Change {
-        let (most, reach) = if self.g > 1_000 {
+        let (most, reach) = if self.grams() > 1_000 {
             (8_000, 150_000 * random.pick(&[1, 1, 3]))
         } else {
             (4, 60)
@@ -220,12 +310,32 @@ impl Glider {
 
     /// The heaviest part that can be fitted, or half of it, at one end.
     pub(super) fn heavy_part(&self, random: &mut Random) -> Change {
-        let most = WEIGHT - self.g;
+        let most = WEIGHT - self.grams();
         Change {
             c: random.pick(&[most, most - 1, most / 2]),
             arm: random.pick(&[ARM, -ARM, 1_234_567, -7]),
             flag: random.below(2),
         }
+    }
+}
+
+/// Readings of a total of g grams by a method, with `rest` of moment above the
+/// arm's where the supports stand one unit apart; `rest` is 0 to g.
+fn readings(m: u64, g: i64, rest: i64) -> (i64, i64) {
+    match m {
+        1 => (g, rest),
+        2 => (g, g - rest),
+        3 => (g - rest, rest),
+        _ => (2 * g - rest, g - rest),
+    }
+}
+
+/// The distance a with which such readings give the moment.
+fn exact_arm(m: u64, arm: i64) -> i64 {
+    match m {
+        1 => arm,
+        2 | 3 => -arm,
+        _ => arm + 1,
     }
 }
 
@@ -322,7 +432,7 @@ fn two_seater(random: &mut Random) -> Glider {
 /// have, so that lighter ones are too light.
 fn balance(random: &mut Random, g: u64, n: u64, mut sheet: Sheet) -> Glider {
     lighten(random, &mut sheet);
-    let mut glider = Glider::new(g, n, sheet);
+    let mut glider = Glider::new(random, g, n, sheet);
     let p = random.between(15_000, 90_000);
     let half = sheet.rear_most as i64 / 2;
     let r = random.pick(&[0, 0, half]);
@@ -367,8 +477,8 @@ pub(super) fn toy(random: &mut Random) -> Glider {
         water_step: random.amount(2, 12),
     };
     lighten(random, &mut sheet);
-    let mut glider = Glider::new(g, n, sheet);
-    glider.meet_somewhere(random, &[0, 0, 5, 50]);
+    let mut glider = Glider::new(random, g, n, sheet);
+    glider.meet_somewhere(random, &[0, 0, 1, 5, 50]);
     glider
 }
 
@@ -383,8 +493,8 @@ pub(super) fn any_glider(random: &mut Random) -> Glider {
 
 /// Case G of the paper: a single-seater with water.
 const CASE_G: Glider = Glider {
-    g: 288_000,
-    moment: 288_000 * 63_334,
+    g: HALVES * 288_000,
+    moment: HALVES * 288_000 * 63_334,
     n: 140_000,
     sheet: Sheet {
         fwd: 25_000,
@@ -407,8 +517,8 @@ const CASE_G: Glider = Glider {
 
 /// Case J of the paper: a two-seater.
 const CASE_J: Glider = Glider {
-    g: 310_000,
-    moment: 19_390_000_000,
+    g: HALVES * 310_000,
+    moment: HALVES * 19_390_000_000,
     n: 0,
     sheet: Sheet {
         fwd: 11_200,
@@ -442,7 +552,7 @@ pub(super) fn worked_plate(random: &mut Random) -> Glider {
             4 => s.nlp = glider.n as u64 + random.amount(60_000, 200_000),
             5 => s.water_arm = random.between(0, 60_000),
             6 => s.aft += random.between(-6_000, 6_000),
-            7 => glider.moment += random.between(-3_000_000_000, 2_000_000_000),
+            7 => glider.moment += random.between(-6_000_000_000, 4_000_000_000),
             _ => s.front_least = random.below(90_000),
         }
     }

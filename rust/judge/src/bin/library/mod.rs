@@ -1,7 +1,7 @@
 //! The proved library by its safe calls on lent buffers, for the programs that
 //! compare and time it.
 
-use judge::paper::{Call, Centre, Change, Counts, Sheet, Weighing};
+use judge::paper::{Call, Centre, Change, Counts, Paired, Sheet, Weighing};
 use judge::run::Calls;
 use nodhulika::{lent, Refusal, Station};
 
@@ -20,6 +20,7 @@ impl Calls for Library {
     fn call(buffer: &mut [u8], call: &Call) -> u64 {
         number(match call {
             Call::Weigh(w) => lent::weigh(buffer, &weighing(w)),
+            Call::Pair(x) => lent::weigh_paired(buffer, &paired(x)),
             Call::Install(s) => lent::sheet(buffer, &sheet(s)),
             Call::Change(c) => lent::change(buffer, &change(c)),
             Call::Undo => lent::undo(buffer),
@@ -53,6 +54,19 @@ fn number(answer: Result<(), Refusal>) -> u64 {
 fn weighing(w: &Weighing) -> nodhulika::Weighing {
     let Weighing { m, p, q, a, b, n } = *w;
     nodhulika::Weighing { m, p, q, a, b, n }
+}
+
+fn paired(x: &Paired) -> nodhulika::Paired {
+    nodhulika::Paired {
+        m: x.m,
+        p: x.p,
+        q: x.q,
+        p2: x.p2,
+        q2: x.q2,
+        a: x.a,
+        b: x.b,
+        n: x.n,
+    }
 }
 
 fn sheet(s: &Sheet) -> nodhulika::Sheet {
