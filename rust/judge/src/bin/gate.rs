@@ -61,7 +61,7 @@ const CASES: usize = 310;
 /// Bytes of text that a case usually has, and how many cases of a kind may have
 /// more.
 const USUAL_TEXT: usize = 700;
-const LONG_CASES: usize = 24;
+const LONG_CASES: usize = 20;
 
 /// Most bytes of the whole input, of a block of it, of a file that is read back,
 /// and of the buffers.
