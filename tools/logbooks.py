@@ -230,8 +230,8 @@ def case_line(text):
 # The samples.
 
 IN_TURN = (
-    *("astir_cs", "astir_cs_two_bars", "blanik_l13_normal", "blanik_l13_aerobatic", "twin_astir", "discus"),
-    *("discus_tail_lead", "g102_astir_cs", "g103_twin_ii"),
+    *("astir_cs", "astir_cs_two_bars", "astir_cs_read_twice", "blanik_l13_normal", "blanik_l13_aerobatic", "twin_astir"),
+    *("discus", "discus_tail_lead", "g102_astir_cs", "g103_twin_ii"),
 )
 
 
@@ -255,9 +255,10 @@ def sample_line(name):
 
 
 def figures():
-    """What the documents print of the same gliders."""
+    """What the documents print of the same gliders. Half a gram more than the Astir's 288 kg leaves 91 kg."""
     assert plates.ends_of(sample("astir_cs"))[0] == (71, 92)
     assert plates.ends_of(sample("astir_cs_two_bars"))[0][0] == 66
+    assert plates.ends_of(sample("astir_cs_read_twice"))[0] == (71, 91)
     least = (107, 88, 69, 50, 31, 13, 0, 0, 0, 0, 0, 0, 0, 0, 0)
     most = (110, 110, 110, 110, 110, 110, 110, 110, 110, 105, 100, 95, 90, 80, 50)
     weighed, limits = sample("blanik_l13_normal")
