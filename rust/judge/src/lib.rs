@@ -5,9 +5,12 @@
 //! placard: from scale readings to the cockpit plate"). None of it was taken
 //! from the proved library, its documents or its tests, so a mistake in reading
 //! the paper there is not repeated here by copying. Where the two differ, one
-//! of them has misread the paper.
+//! of them has misread the paper. Card 1 of paper 02 ("Both readings stay") was
+//! added from the card's words, but by someone who had read the definitions that
+//! the library is proved against: of it this is a second reckoning rather than a
+//! second reading.
 //!
-//! - [`paper`] follows the paper line by line, with plain loops and `i128`.
+//! - [`paper`] follows the papers line by line, with plain loops and `i128`.
 //!   It is slow and meant to be compared with the paper by eye.
 //! - [`direct`] gives the same answers by solving each limit for the front
 //!   load, on a record lent as its file at the front of a byte buffer. It
@@ -21,7 +24,8 @@
 //! `src/bin` compare the two and time them; only they link it.
 //!
 //! Weights are whole grams and arms whole hundredths of a millimetre, positive
-//! aft of the datum, as in the paper's "Units".
+//! aft of the datum, as in paper 01's "Units"; sums over two readings are in half
+//! grams.
 
 #![forbid(unsafe_code)]
 #![warn(missing_docs)]
