@@ -62,6 +62,7 @@ fn sample(logbook: &[u8], placard: &[u8]) {
 pub fn run() {
     sample(b"astir_cs.txt", b"astir_cs.placard");
     sample(b"astir_cs_two_bars.txt", b"astir_cs_two_bars.placard");
+    sample(b"astir_cs_read_twice.txt", b"astir_cs_read_twice.placard");
     sample(b"blanik_l13_normal.txt", b"blanik_l13_normal.placard");
     sample(b"blanik_l13_aerobatic.txt", b"blanik_l13_aerobatic.placard");
     sample(b"twin_astir.txt", b"twin_astir.placard");
