@@ -79,6 +79,14 @@ fn read(line: &[u8], buffer: &mut [u8]) -> u64 {
     nodhulika_read(buffer, lines::between(&file, 0, n))
 }
 
+// `Lent HEX`: these bytes at the front of the buffer, as they are. No call, and no answer.
+fn put(line: &[u8], buffer: &mut [u8]) {
+    if line.len() < 5 {
+        return;
+    }
+    spelled(&line[5..], buffer);
+}
+
 // `Check`: the number, and the sum of the whole buffer.
 fn check(buffer: &[u8]) {
     answer(nodhulika_check(buffer));
@@ -189,6 +197,7 @@ fn done(line: &[u8], buffer: &mut [u8]) {
     let first = byte_at(line, 0);
     match first {
         b'R' => answer(read(line, buffer)),
+        b'L' => put(line, buffer),
         b'P' => placard(line, buffer),
         b'C' => asked(byte_at(line, 1), buffer),
         _ => call(line, buffer),
