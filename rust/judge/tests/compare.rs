@@ -1,6 +1,7 @@
 //! The direct functions against the paper on generated cases.
 
 use judge::generate::{case, Case};
+use judge::paper::Call;
 use judge::run::{Answers, By, Direct, Paper, Plate, Trial, WORK};
 
 const CASES: u64 = 20_000;
@@ -16,6 +17,23 @@ impl Numbers {
         let last = last.into_iter().map(|number| number.unwrap_or(0));
         for number in answers.numbers.iter().copied().chain(last) {
             self.0[number as usize] += 1;
+        }
+    }
+}
+
+/// Paired weighings accepted and refused, and files of version 1 accepted.
+#[derive(Default)]
+struct Card1([u64; 3]);
+
+impl Card1 {
+    fn add(&mut self, calls: &[Call], answers: &Answers) {
+        for (call, number) in calls.iter().zip(&answers.numbers) {
+            match (call, number) {
+                (Call::Pair(_), 0) => self.0[0] += 1,
+                (Call::Pair(_), _) => self.0[1] += 1,
+                (Call::Read(file), 0) if file[4] == 1 => self.0[2] += 1,
+                _ => {}
+            }
         }
     }
 }
@@ -36,7 +54,7 @@ fn same(trial: &Trial, case: &Case) -> (Answers, Option<Plate>) {
 
 #[test]
 fn direct_answers_as_the_paper_does() {
-    let mut numbers = Numbers::default();
+    let (mut numbers, mut card_1) = (Numbers::default(), Card1::default());
     let (mut compared, mut rows, mut blank) = (0, 0, 0);
     for index in 0..CASES {
         let case = case(SEED, index);
@@ -44,6 +62,7 @@ fn direct_answers_as_the_paper_does() {
             continue;
         };
         numbers.add(&answers, &plate);
+        card_1.add(&case.calls, &answers);
         compared += 1;
         if let Ok(counts) = plate.answer {
             rows += counts.rows;
@@ -56,6 +75,11 @@ fn direct_answers_as_the_paper_does() {
         numbers.0.iter().all(|count| *count > 500),
         "{:?}",
         numbers.0
+    );
+    assert!(
+        card_1.0.iter().all(|count| *count > 1_000),
+        "{:?}",
+        card_1.0
     );
     assert!(rows > 300_000 && blank > rows / 5 && blank < rows / 2);
 }

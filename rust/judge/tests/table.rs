@@ -62,8 +62,22 @@ fn weigh(w: Weighing) -> u64 {
     number(Call::Weigh(w))
 }
 
+/// A pair with its readings in the other order.
+fn turned(x: Paired) -> Paired {
+    Paired {
+        p: x.p2,
+        q: x.q2,
+        p2: x.p,
+        q2: x.q,
+        ..x
+    }
+}
+
+/// The number of a pair, which is the same whichever reading comes first.
 fn pair(x: Paired) -> u64 {
-    number(Call::Pair(x))
+    let given = number(Call::Pair(x));
+    assert_eq!(number(Call::Pair(turned(x))), given, "{x:?}");
+    given
 }
 
 fn install(s: Sheet) -> u64 {
@@ -100,80 +114,35 @@ fn weighing_is_refused_in_the_order_9_1_2_3() {
     assert_eq!(weigh(w), 0);
 }
 
-/// By number, and not reading by reading.
+/// By number, and not reading by reading: a total of 0 counts before n over the
+/// total of the other reading.
 #[test]
 fn pair_is_refused_in_the_order_9_1_2_3() {
-    for first in [true, false] {
-        let mut x = PAIRED;
-        let (bad, other) = if first {
-            (&mut x.p, &mut x.p2)
-        } else {
-            (&mut x.p2, &mut x.p)
-        };
-        (*bad, *other) = (0, 99_999);
-        x.b = 0;
-        assert_eq!(full().call(&Call::Pair(x)), 9);
-        assert_eq!(pair(x), 1);
-        let mut x = Paired { b: 0, ..PAIRED };
-        *(if first { &mut x.p } else { &mut x.p2 }) = 99_999;
-        assert_eq!(pair(x), 2);
-        x.b = 1;
-        assert_eq!(pair(x), 3);
-        x.n = 99_999;
-        assert_eq!(pair(x), 0);
-    }
-    // One reading is out of range, and the non-lifting weight over the other.
-    let (p, q, p2, q2) = (99_999, 20_000, 0, 0);
-    assert_eq!(
-        pair(Paired {
-            p,
-            q,
-            p2,
-            q2,
-            ..PAIRED
-        }),
-        1
-    );
-    let (p, q, p2, q2) = (p2, q2, p, q);
-    assert_eq!(
-        pair(Paired {
-            p,
-            q,
-            p2,
-            q2,
-            ..PAIRED
-        }),
-        1
-    );
+    let mut x = Paired {
+        p: 99_999,
+        p2: 0,
+        q2: 0,
+        b: 0,
+        ..PAIRED
+    };
+    assert_eq!(full().call(&Call::Pair(x)), 9);
+    assert_eq!(pair(x), 1);
+    x.p2 = 300_010;
+    assert_eq!(pair(x), 2);
+    x.b = 1;
+    assert_eq!(pair(x), 3);
+    x.n = 99_999;
+    assert_eq!(pair(x), 0);
 }
 
-/// n is at most the smaller total, whichever reading has it.
+/// n is at most the smaller total.
 #[test]
 fn the_smaller_total_counts() {
-    for (m, p, q, smaller) in [
-        (1, 299_999, 20_000, 299_999),
-        (2, 299_999, 20_000, 299_999),
-        (3, 299_999, 20_000, 319_999),
-        (4, 299_999, 20_000, 279_999),
-    ] {
-        let second = Paired {
-            m,
-            p2: p,
-            q2: q,
-            ..PAIRED
-        };
-        let first = Paired { m, p, q, ..PAIRED };
-        for x in [first, second] {
-            assert_eq!(pair(Paired { n: smaller, ..x }), 0, "{x:?}");
-            assert_eq!(
-                pair(Paired {
-                    n: smaller + 1,
-                    ..x
-                }),
-                3,
-                "{x:?}"
-            );
-        }
+    for (m, smaller) in [(1, 299_999), (2, 299_999), (3, 319_999), (4, 279_999)] {
+        let p = 299_999;
+        let at = |n| pair(Paired { m, p, n, ..PAIRED });
+        assert_eq!(at(smaller), 0, "method {m}");
+        assert_eq!(at(smaller + 1), 3, "method {m}");
     }
 }
 
@@ -217,36 +186,45 @@ fn change_is_refused_in_the_order_9_7_2_6_3() {
     assert_eq!(change(c), 0);
 }
 
-/// Each as a weighing of its own, as the first and as the second of a pair.
+const TOP: u64 = 2_000_000;
+
+/// Methods and readings with their numbers.
+const READINGS: [(u64, u64, u64, u64); 21] = [
+    (0, 10, 5, 1),
+    (5, 10, 5, 1),
+    (1, 0, 0, 1),
+    (1, 1, 1, 0),
+    (1, 1, 2, 1),
+    (2, 9, 9, 0),
+    (2, 9, 10, 1),
+    (1, TOP, TOP, 0),
+    (1, TOP + 1, 0, 1),
+    (3, 0, 0, 1),
+    (3, 0, 1, 0),
+    (3, TOP, 0, 0),
+    (3, TOP, 1, 1),
+    (3, 5, TOP + 1, 1),
+    (4, 1, 0, 0),
+    (4, 1, 1, 1),
+    (4, 1, 2, 1),
+    (4, TOP, TOP - 1, 0),
+    (4, TOP + 1, 1, 1),
+    (4, u64::MAX, u64::MAX - 1, 1),
+    (3, u64::MAX, 2, 1),
+];
+
+/// Each as a weighing of its own, and as one reading of a pair.
 #[test]
 fn readings_by_method() {
-    const TOP: u64 = 2_000_000;
-    for (m, p, q, expected) in [
-        (0, 10, 5, 1),
-        (5, 10, 5, 1),
-        (1, 0, 0, 1),
-        (1, 1, 1, 0),
-        (1, 1, 2, 1),
-        (2, 9, 9, 0),
-        (2, 9, 10, 1),
-        (1, TOP, TOP, 0),
-        (1, TOP + 1, 0, 1),
-        (3, 0, 0, 1),
-        (3, 0, 1, 0),
-        (3, TOP, 0, 0),
-        (3, TOP, 1, 1),
-        (3, 5, TOP + 1, 1),
-        (4, 1, 0, 0),
-        (4, 1, 1, 1),
-        (4, 1, 2, 1),
-        (4, TOP, TOP - 1, 0),
-        (4, TOP + 1, 1, 1),
-        (4, u64::MAX, u64::MAX - 1, 1),
-        (3, u64::MAX, 2, 1),
-    ] {
-        let (a, b, n) = (WEIGHING.a, WEIGHING.b, 0);
-        let (p2, q2, reading) = (PAIRED.p2, PAIRED.q2, (p, q));
-        let plain = Weighing { m, p, q, a, b, n };
+    for (m, p, q, expected) in READINGS {
+        let n = 0;
+        let plain = Weighing {
+            m,
+            p,
+            q,
+            n,
+            ..WEIGHING
+        };
         let first = Paired {
             m,
             p,
@@ -254,20 +232,8 @@ fn readings_by_method() {
             n,
             ..PAIRED
         };
-        assert_eq!(weigh(plain), expected, "m {m} p {p} q {q}");
+        assert_eq!(weigh(plain), expected, "{plain:?}");
         assert_eq!(pair(first), expected, "{first:?}");
-        let (p, q) = (p2, q2);
-        let (p2, q2) = reading;
-        let second = Paired {
-            m,
-            p,
-            q,
-            p2,
-            q2,
-            n,
-            ..PAIRED
-        };
-        assert_eq!(pair(second), expected, "{second:?}");
     }
 }
 
