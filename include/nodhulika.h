@@ -260,6 +260,9 @@ uint64_t nodhulika_read(uint8_t *buffer, size_t buffer_length,
  *
  *      printf("%" PRId64 "%s g", total / 2, total % 2 == 0 ? "" : ".5");
  *
+ *    A moment may be negative, and then its sign has to be printed first: -1 / 2
+ *    is 0 in C.
+ *
  * Answers NODHULIKA_OK or, in this order, NODHULIKA_FILE, NODHULIKA_UNWEIGHED,
  * NODHULIKA_SHORT.
  */
