@@ -1,4 +1,4 @@
--- Paper 01 as definitions, a module for each of its headings, in its order.
+-- Paper 01, as the cards of paper 02 have changed it, as definitions: a module for each of its headings, in its order.
 pub mod Units
 pub mod Record
 pub mod Rows

@@ -4,7 +4,7 @@ use mathlib.Core.List.{List, [], _∷_, _++_}
 use mathlib.Core.Option.{Option, none, some}
 use Prim.Native.Nat.{ℕ}
 use lib.Dec.{leb, ltb, eqb}
-use lib.IntN.{ℤ, pos, negℤ, natAbs}
+use lib.IntN.{pos, negℤ, natAbs}
 use lib.ListN.{length}
 use lib.Signed.{ltZ}
 use Rattle.paper.specs.declared.Station.{Station}

@@ -10,7 +10,6 @@ use lib.ListN.{getD, drop}
 use lib.Pow.{areBytes}
 use Rattle.laws.specs.Tests.{failed, passed}
 use Rattle.paper.specs.declared.Entry.{Entry}
-use Rattle.paper.specs.File.{lastKind}
 use Rattle.paper.specs.Refusals.{fileOf}
 use Rattle.format.specs.Numbers.{bytes-at}
 use Rattle.judge.proofs.Judging.{room-of}
