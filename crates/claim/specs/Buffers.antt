@@ -9,9 +9,9 @@ use Prim.Native.Nat.{ℕ, _+_, _≤_, _<_}
 use native.Mathlib.Decide.{decLe}
 use native.Mathlib.Omega.{arith}
 use lib.Dec.{eqb}
-use lib.ListN.{length, take, drop, length-append, length-drop}
+use lib.ListN.{length, getD, take, drop, length-append, length-drop}
 use lib.Seq.{take-at, take-append-seam}
-use borrow.Author.Tests.{eqb-true, lt-ltb, le-ltb}
+use borrow.Author.Tests.{eqb-true, eqb-false, lt-ltb, le-ltb}
 use Rattle.paper.specs.declared.Entry.{Entry}
 use Rattle.paper.specs.File.{bytesOf, numberOf, bodyAs, fileAs, version, fileBytes}
 use Rattle.paper.specs.Refusals.{acceptedAfter, accepted, fileOf, isNone, firstNumber, readingNumber, writingNumber}
@@ -117,6 +117,38 @@ read-same es xs s = by (fileOf xs) refl
 
 pub read-leaves : (n : ℕ) (es : List Entry) (s : List ℕ) → Holds n es s → (xs : List ℕ) → Leaves n (lentRead xs s) (numberIn n es (journal.read xs)) (afterBy (numberIn n) es (journal.read xs))
 read-leaves n es s h xs = rw (read-same es xs s) (by-list n es s h (journal.read xs))
+
+-- ---- versions
+
+-- a call on a lent record of whatever version: a refused one leaves every byte, and an accepted one leaves the version that is
+-- written in the fifth place
+abbrev pub Renewed : List ℕ → ℕ × List ℕ → Type 0
+Renewed s p = (0 < p .0 → p .1 ≡ s) × (p .0 ≡ 0 → getD (p .1) 4 0 ≡ version)
+
+file-renewed : (es : List Entry) (s : List ℕ) → Renewed s (lentFile es s)
+unfolding over fileAs bodyAs bytesOf
+file-renewed es s =
+    elim (decLe (length (fileBytes es)) (length s)) as (λ d. Renewed s (lentFile es s)) [
+      | yes h ↦ rw (file-put es s h) (λ k. absurd (omega arith), λ e. refl)
+      | no h ↦ rw (file-short es s (omega arith)) (λ k. refl, λ e. absurd (omega arith))
+    ]
+
+call-by : (o : Option (List Entry)) (x : Call) (s : List ℕ) → Renewed s (lentBy o x s)
+unfolding lentBy
+call-by none x s = (λ k. refl, λ e. absurd (omega arith))
+call-by (some es) x s = by (eqb (callNumber es x) 0) refl
+  where
+    by : (t : Bool) → eqb (callNumber es x) 0 ≡ t → Renewed s (cond t (lentFile (acceptedCall es x) s) (callNumber es x, s))
+    by true e = file-renewed (acceptedCall es x) s
+    by false e = (λ k. refl, λ z. absurd (eqb-false (callNumber es x) 0 e z))
+
+pub call-renewed : (x : Call) (s : List ℕ) → Renewed s (lentCall x s)
+unfolding lentCall
+call-renewed x s = call-by (heldIn s) x s
+
+pub read-renewed : (xs s : List ℕ) → Renewed s (lentRead xs s)
+unfolding lentRead
+read-renewed xs s = call-by (some []) (journal.read xs) s
 
 -- ---- with room for every file
 

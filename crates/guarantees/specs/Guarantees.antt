@@ -8,7 +8,7 @@
 use mathlib.Core.Path.{_≡_}
 use mathlib.Core.Bool.{true}
 use mathlib.Core.List.{List}
-use Prim.Native.Nat.{ℕ, _≤_}
+use Prim.Native.Nat.{ℕ, _≤_, _<_}
 use lib.ListN.{length, getD, set, take}
 use denote.Ref.{RefT, now}
 use Rattle.laws.specs.Lists.{Each}
@@ -33,7 +33,7 @@ use Rattle.file.proofs.RoundTrips as trips
 use Rattle.plate.specs.Longest as plate
 use Rattle.plate.proofs.longest.Reads as plate-longest
 use Rattle.plate.proofs.placard.Reads as placard
-use Rattle.lent.specs.Lent.{numbersIn, journalIn}
+use Rattle.lent.specs.Lent.{lentCall, lentRead, numbersIn, journalIn}
 use Rattle.nodhulika.proofs.nodhulika_placard.Reads as library-placard
 use Rattle.language.specs.declared.Line.{Line}
 use Rattle.language.specs.Lines.{Means}
@@ -48,7 +48,7 @@ use Rattle.listing.proofs.ReadAgain as read-again
 use Rattle.worked.specs.Table.{table, Says, A-to-K}
 use Rattle.claim.specs.Demand3.{Demand3}
 use Rattle.claim.specs.RecordCalls as on-record
-use Rattle.claim.specs.Buffers.{room-for-all}
+use Rattle.claim.specs.Buffers.{call-renewed, read-renewed, room-for-all}
 use Rattle.claim.specs.LibraryCalls as of-library
 use Rattle.claim.specs.Records as records
 
@@ -137,6 +137,14 @@ library-demand-3 = of-library.demand-3
 -- With room for every file, which 3,910 bytes are, it is the journal itself.
 pub with-room-the-journal : (n : ℕ) → 3910 ≤ n → (calls : List Call) → (numbersIn n calls ≡ numbers calls) × (journalIn n calls ≡ journal calls)
 with-room-the-journal = room-for-all
+
+-- A record may be lent in a file of version 1. A weighing, plain or paired, a sheet, a change or taking back that is refused leaves
+-- every byte of its buffer, and one that is accepted leaves the version byte 2 there; so does reading back.
+pub lent-renewed : (x : Call) (s : List ℕ) → (0 < lentCall x s .0 → lentCall x s .1 ≡ s) × (lentCall x s .0 ≡ 0 → getD (lentCall x s .1) 4 0 ≡ 2)
+lent-renewed = call-renewed
+
+pub lent-read-renewed : (xs s : List ℕ) → (0 < lentRead xs s .0 → lentRead xs s .1 ≡ s) × (lentRead xs s .0 ≡ 0 → getD (lentRead xs s .1) 4 0 ≡ 2)
+lent-read-renewed = read-renewed
 
 -- It is about something: every list of calls has a trace on every buffer that a fresh record fits.
 pub every-library-list-runs : (calls : List Call) (first lent counts : List ℕ) → 6 ≤ length first → of-library.Run calls first lent counts
