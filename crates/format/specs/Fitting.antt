@@ -10,7 +10,7 @@ use lib.Dec.{leb, eqb}
 use lib.IntN.{ℤ, pos, negsuc, natAbs}
 use lib.Signed.{leZ, _≤ℤ_}
 use borrow.Author.Tests.{not-false, le-leb, lt-leb, leb-true}
-use Rattle.laws.specs.Tests.{kept, left, right, not-left, not-right}
+use Rattle.laws.specs.Tests.{kept, left, right}
 use Rattle.laws.specs.Z.{zs}
 use Rattle.paper.specs.declared.Weighing.{Weighing}
 use Rattle.paper.specs.declared.Paired.{Paired}
@@ -19,11 +19,12 @@ use Rattle.paper.specs.declared.Change.{Change}
 use Rattle.paper.specs.declared.Entry.{Entry}
 use Rattle.paper.specs.declared.Entry.the-variants as entry
 use Rattle.paper.specs.Units.{isWeight, isArm}
-use Rattle.paper.specs.Record.{Balance, Readings, alike, paired, totalOf, balanceOf}
+use Rattle.paper.specs.Record.{Balance, alike, paired, totalOf, balanceOf}
 use Rattle.paper.specs.File.{Field, complement, fieldValue, byte, word, signedWord, layoutOf, valuesOf}
-use Rattle.paper.specs.Refusals.{_when_, firstNumber, badReading, badDistance, badPart, either, weighingFaults, weighingNumber, sheetFaults, sheetNumber, isNone, isChange, badChange, changeFaults, changeNumber, entryNumber, full}
+use Rattle.paper.specs.Refusals.{firstNumber, badReading, badDistance, badPart, weighingFaults, weighingNumber, sheetFaults, sheetNumber, isNone, isChange, badChange, changeFaults, changeNumber, entryNumber, full}
 use Rattle.paper.proofs.Numbers.{no-first, no-other}
 use Rattle.paper.proofs.Units.{arm-range}
+use Rattle.paper.proofs.Weighings.{Fine, first-fine, second-fine}
 use Rattle.sheet.proofs.Accepted.{accepted-sheet}
 use Rattle.format.specs.Rows.{fieldsOf}
 
@@ -67,72 +68,50 @@ most a b e f = leb-true a b (kept (leb a b) e f)
 arm : {q : Bool} (z : ℤ) → q ≡ false → (isArm z ≡ false → q ≡ true) → (negsuc 1999999 ≤ℤ z) × (z ≤ℤ pos 2000000)
 arm z e f = arm-range z (kept (isArm z) e f)
 
--- a reading's numbers, where it has none of the faults
-module _ (w : Weighing) (reading : badReading w ≡ false) (distance : badDistance w ≡ false) (part : badPart w ≡ false) where
+-- the numbers of a reading that has no condition
+module _ (w : Weighing) (fine : Fine w) where
   fit-m : Fit byte (pos (w .m))
   unfolding badReading
-  fit-m = fit-byte (w .m) (most (w .m) 4 reading (λ h. simp (h, and-false)))
+  fit-m = fit-byte (w .m) (most (w .m) 4 (fine .0) (λ h. simp (h, and-false)))
 
   fit-p : Fit word (pos (w .p))
   unfolding badReading isWeight
-  fit-p = fit-word (w .p) (most (w .p) 2000000 reading (λ h. simp (h, or-true)))
+  fit-p = fit-word (w .p) (most (w .p) 2000000 (fine .0) (λ h. simp (h, or-true)))
 
   fit-q : Fit word (pos (w .q))
   unfolding badReading isWeight
-  fit-q = fit-word (w .q) (most (w .q) 2000000 reading (λ h. simp (h, or-true)))
+  fit-q = fit-word (w .q) (most (w .q) 2000000 (fine .0) (λ h. simp (h, or-true)))
 
   fit-a : Fit signedWord (w .a)
   unfolding badDistance
-  fit-a = fit-signed (w .a) (arm (w .a) distance (λ h. simp h))
+  fit-a = fit-signed (w .a) (arm (w .a) (fine .1) (λ h. simp h))
 
   fit-b : Fit word (pos (w .b))
   unfolding badDistance
-  fit-b = fit-word (w .b) (most (w .b) 2000000 distance (λ h. simp (h, and-false, or-true)))
+  fit-b = fit-word (w .b) (most (w .b) 2000000 (fine .1) (λ h. simp (h, and-false, or-true)))
 
   -- n is at most G
   fit-n : Fit word (pos (w .n))
   unfolding badReading badPart
   fit-n =
-      let g = kept (leZ (totalOf w) (pos 2000000)) reading (λ k. simp (k, and-false, or-true)) in
-      let l = kept (leZ (pos (w .n)) (totalOf w)) part (λ k. simp (k, and-false)) in
+      let g = kept (leZ (totalOf w) (pos 2000000)) (fine .0) (λ k. simp (k, and-false, or-true)) in
+      let l = kept (leZ (pos (w .n)) (totalOf w)) (fine .2) (λ k. simp (k, and-false)) in
       fit-word (w .n) (omega (arith, zs))
-
--- two readings that get no number have none of the faults
-module _ (x : Readings) (e : firstNumber (weighingFaults x) ≡ 0) where
-  behind-1 : firstNumber (2 when either badDistance x ∷ 3 when either badPart x ∷ []) ≡ 0
-  unfolding weighingFaults
-  behind-1 = no-other 1 (either badReading x) _ (omega arith) e
-
-  readings-fine : either badReading x ≡ false
-  unfolding weighingFaults
-  readings-fine = no-first 1 (either badReading x) _ (omega arith) e
-
-  distances-fine : either badDistance x ≡ false
-  distances-fine = no-first 2 (either badDistance x) _ (omega arith) behind-1
-
-  parts-fine : either badPart x ≡ false
-  parts-fine = no-first 3 (either badPart x) [] (omega arith) (no-other 2 (either badDistance x) _ (omega arith) behind-1)
 
 weighing-fits : (w : Weighing) → firstNumber (weighingFaults (alike w)) ≡ 0 → AllFit (fieldsOf (entry.Weighing w)) (valuesOf (entry.Weighing w))
 unfolding layoutOf
 weighing-fits w e =
-    let r = not-left (badReading w) (badReading w) (readings-fine (alike w) e) in
-    let d = not-left (badDistance w) (badDistance w) (distances-fine (alike w) e) in
-    let n = not-left (badPart w) (badPart w) (parts-fine (alike w) e) in
-    fit-m w r d n and fit-p w r d n and fit-q w r d n and fit-a w r d n and fit-b w r d n and fit-n w r d n and done
+    let f = first-fine (alike w) e in
+    fit-m w f and fit-p w f and fit-q w f and fit-a w f and fit-b w f and fit-n w f and done
 
 pair-fits : (x : Paired) → firstNumber (weighingFaults (paired x)) ≡ 0 → AllFit (fieldsOf (entry.Paired x)) (valuesOf (entry.Paired x))
 unfolding layoutOf
 pair-fits x e =
     let v = paired x .first in
     let w = paired x .second in
-    let vr = not-left (badReading v) (badReading w) (readings-fine (paired x) e) in
-    let vd = not-left (badDistance v) (badDistance w) (distances-fine (paired x) e) in
-    let vn = not-left (badPart v) (badPart w) (parts-fine (paired x) e) in
-    let wr = not-right (badReading v) (badReading w) (readings-fine (paired x) e) in
-    let wd = not-right (badDistance v) (badDistance w) (distances-fine (paired x) e) in
-    let wn = not-right (badPart v) (badPart w) (parts-fine (paired x) e) in
-    fit-m v vr vd vn and fit-p v vr vd vn and fit-q v vr vd vn and fit-p w wr wd wn and fit-q w wr wd wn and fit-a v vr vd vn and fit-b v vr vd vn and fit-n v vr vd vn and done
+    let f = first-fine (paired x) e in
+    let g = second-fine (paired x) e in
+    fit-m v f and fit-p v f and fit-q v f and fit-p w g and fit-q w g and fit-a v f and fit-b v f and fit-n v f and done
 
 sheet-fits : (s : Sheet) → firstNumber (sheetFaults s) ≡ 0 → AllFit (fieldsOf (entry.Sheet s)) (valuesOf (entry.Sheet s))
 unfolding layoutOf

@@ -3,6 +3,7 @@ pub mod Tests
 pub mod Lists
 pub mod Written
 pub mod Puts
+pub mod Begun
 pub mod Spelled
 pub mod Splits
 pub mod Options

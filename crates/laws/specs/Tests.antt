@@ -55,6 +55,10 @@ and-swapped true false c d = sym (and-false c)
 and-swapped false b c d = refl
 
 -- neither of the two passes
+pub or-self : (b : Bool) → (b || b) ≡ b
+or-self true = refl
+or-self false = refl
+
 pub not-left : (a b : Bool) → (a || b) ≡ false → a ≡ false
 not-left true b e = e
 not-left false b e = refl

@@ -1,4 +1,5 @@
 -- Laws about the definitions, for the proofs of every crate above.
 pub mod Units
 pub mod Numbers
+pub mod Weighings
 pub mod Lists

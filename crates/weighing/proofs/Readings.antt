@@ -1,7 +1,6 @@
 -- The condition of number 1 by method, each way by computing its tests, and what a weighing without it has. Assumes nothing.
 use mathlib.Core.Path.{_≡_, refl, sym, _∙_}
 use mathlib.Core.Bool.{Bool, true, false, not, _&&_, _||_, and-true, or-true, true≢false}
-use mathlib.Core.List.{[], _∷_}
 use Prim.Native.Nat.{ℕ, _+_, _-_, _≤_, _<_}
 use native.Mathlib.Decide.{decLe, ℕ-discrete}
 use native.Mathlib.Omega.{arith}
@@ -9,15 +8,14 @@ use lib.Dec.{leb, ltb, leb·zero}
 use lib.IntN.{pos, negsuc, _-ℤ_}
 use lib.Signed.{leZ, _≤ℤ_}
 use borrow.Author.Tests.{le-leb, lt-leb, leb-true, leb-false, ltb-false, not-false}
-use Rattle.laws.specs.Tests.{left, right, isnt, not-left, not-right, ltb-not}
+use Rattle.laws.specs.Tests.{left, right, isnt, or-self, not-left, not-right, ltb-not}
 use Rattle.laws.specs.Z.{zs, goal-leZ, goal-nleZ, is-nat, is-sub}
-use Rattle.paper.proofs.Numbers.{no-first, no-other}
 use Rattle.paper.proofs.Units.{arm-range}
 use Rattle.paper.specs.declared.Weighing.{Weighing}
 use Rattle.paper.specs.declared.Paired.{Paired}
 use Rattle.paper.specs.Units.{between, isWeight, isArm}
-use Rattle.paper.specs.Record.{Readings, paired, totalOf}
-use Rattle.paper.specs.Refusals.{badReading, badDistance, badPart, either, _when_, firstNumber, weighingFaults}
+use Rattle.paper.specs.Record.{paired, totalOf}
+use Rattle.paper.specs.Refusals.{badReading, badDistance, badPart, either}
 
 -- a difference as a total
 lift : (p q : ℕ) → p ≤ 2000000 → not (between (pos 1) (pos 2000000) (pos p -ℤ pos q)) ≡ leb p q
@@ -141,43 +139,7 @@ module _ (w : Weighing) (near : badDistance w ≡ false) where
   unfolding badDistance
   a-range = arm-range (w .a) (not-false _ (not-left (not (isArm (w .a))) (not (leb 1 (w .b) && leb (w .b) 2000000)) near))
 
--- ---- two readings
-
-or-self : (b : Bool) → (b || b) ≡ b
-or-self true = refl
-or-self false = refl
-
--- those of a paired weighing have the same distances
+-- the readings of a paired weighing have the same distances
 pub same-distances : (x : Paired) → either badDistance (paired x) ≡ badDistance (paired x .first)
 unfolding badDistance
 same-distances x = or-self _
-
--- they get no number behind 9
-module _ (x : Readings) (clear : firstNumber (weighingFaults x) ≡ 0) where
-  behind-1 : firstNumber (2 when either badDistance x ∷ 3 when either badPart x ∷ []) ≡ 0
-  unfolding weighingFaults
-  behind-1 = no-other 1 (either badReading x) _ (omega arith) clear
-
-  no-reading : either badReading x ≡ false
-  unfolding weighingFaults
-  no-reading = no-first 1 (either badReading x) _ (omega arith) clear
-
-  no-distance : either badDistance x ≡ false
-  no-distance = no-first 2 (either badDistance x) _ (omega arith) behind-1
-
-  no-part : either badPart x ≡ false
-  no-part = no-first 3 (either badPart x) [] (omega arith) (no-other 2 (either badDistance x) _ (omega arith) behind-1)
-
-  -- so neither has a condition
-  abbrev Fine : Weighing → Type 0
-  Fine w = (badReading w ≡ false) × (badDistance w ≡ false) × (badPart w ≡ false)
-
-  pub first-fine : Fine (x .first)
-  first-fine = (not-left _ _ no-reading, not-left _ _ no-distance, not-left _ _ no-part)
-
-  pub second-fine : Fine (x .second)
-  second-fine = (
-    not-right (badReading (x .first)) _ no-reading,
-    not-right (badDistance (x .first)) _ no-distance,
-    not-right (badPart (x .first)) _ no-part,
-  )

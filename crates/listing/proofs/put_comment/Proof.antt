@@ -10,11 +10,11 @@ use mir.Syntax.{w64}
 use mir.Val.{toZ, ofZ}
 use lib.ListN.{length, set}
 use Rattle.laws.specs.Puts.{put-none, put-as, put-one}
+use Rattle.laws.specs.Begun.{Begun, begun-none, begun-room, begun-more, begun-all, begun-kept}
 use Rattle.paper.specs.declared.CentreOfGravity.{CentreOfGravity}
 use Rattle.paper.specs.Placard.{feed}
 use Rattle.numerals.specs.Numerals.{numeral}
 use Rattle.listing.specs.Listings.{totalText, momentText, centreText, halves, signedHalves, comment}
-use Rattle.listing.proofs.Begun.{Begun, begun-none, begun-room, begun-more, begun-all, begun-kept}
 use Rattle.listing.proofs.Comments.{fromTotal, behindTotal, fromMoment, behindMoment, fromCentre, comment-parts}
 use Rattle.listing.proofs.put_comment.Statement.{statement}
 use Rattle.listing.proofs.put_comment.Tie as tie

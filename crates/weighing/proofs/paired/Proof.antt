@@ -1,7 +1,7 @@
 -- `weighing::paired` meets its contract: by its two readings. Assumes nothing.
 use borrow.Author.Needs.{needs}
 use Rattle.paper.specs.Record as paper
-use Rattle.weighing.proofs.Readings.{first-fine, second-fine}
+use Rattle.paper.proofs.Weighings.{first-fine, second-fine}
 use Rattle.weighing.proofs.paired.Statement.{statement}
 use Rattle.weighing.proofs.paired.Tie as tie
 

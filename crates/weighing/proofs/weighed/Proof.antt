@@ -1,7 +1,7 @@
 -- `weighing::weighed` meets its contract: by its one reading. Assumes nothing.
 use borrow.Author.Needs.{needs}
 use Rattle.paper.specs.Record.{alike}
-use Rattle.weighing.proofs.Readings.{first-fine}
+use Rattle.paper.proofs.Weighings.{first-fine}
 use Rattle.weighing.proofs.weighed.Statement.{statement}
 use Rattle.weighing.proofs.weighed.Tie as tie
 
