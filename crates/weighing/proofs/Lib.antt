@@ -1,3 +1,2 @@
--- What the proofs share: the conditions of a weighing, and its moment by method.
-pub mod Readings
-pub mod Moments
+-- What the proofs share: sums over two readings.
+pub mod Sums

@@ -1,25 +1,6 @@
--- What one reading says, as the code carries it, in grams; and two readings that count together.
-use mathlib.Core.Path.{_≡_}
-use Prim.Native.Nat.{_≤_}
-use lib.IntN.{pos, _-ℤ_}
+-- Two readings that count together.
 use Rattle.paper.specs.declared.Weighing.{Weighing}
-use Rattle.paper.specs.Record.{Readings, totalOf, momentOf}
-use Rattle.weighing.specs.declared.Reading.{Reading}
-use Rattle.weighing.specs.Moments.{twoProducts}
+use Rattle.paper.specs.Record.{Readings}
 
 abbrev pub both : Weighing → Weighing → Readings
 both v w = record { first = v; second = w }
-
--- G, M and n of a weighing: M is what turns aft less what turns forward
-pub record Says (w : Weighing) (r : Reading) : Type 0 where
-  pub total : pos (r .total) ≡ totalOf w
-  pub moment : pos (r .aft) -ℤ pos (r .fore) ≡ momentOf w
-  pub nonlifting : r .nonlifting ≡ w .n
-
--- G is 1..2,000,000 and n is 0..G, and the bounds of the moment
-pub record InGrams (r : Reading) : Type 0 where
-  pub least : 1 ≤ r .total
-  pub most : r .total ≤ 2000000
-  pub part : r .nonlifting ≤ r .total
-  pub aft : r .aft ≤ twoProducts
-  pub fore : r .fore ≤ twoProducts

@@ -5,7 +5,7 @@ use native.Mathlib.Omega.{arith}
 use Prim.Native.Nat.{_+_}
 use lib.IntN.{pos, _+ℤ_}
 use Rattle.paper.specs.Record as paper
-use Rattle.weighing.proofs.Moments.{sides-added}
+use Rattle.weighing.proofs.Sums.{sides-added}
 use Rattle.weighing.proofs.added.Statement.{statement}
 use Rattle.weighing.proofs.added.Tie as tie
 

@@ -5,7 +5,7 @@ use mathlib.Core.Bool.{false, _||_}
 use Rattle.laws.specs.Tests.{not-left, not-right}
 use Rattle.paper.specs.Record.{paired}
 use Rattle.paper.specs.Refusals.{firstNumber, badReading, badDistance, badPart, either, weighingFaults}
-use Rattle.weighing.proofs.Readings.{same-distances}
+use Rattle.weighing.proofs.Sums.{same-distances}
 use Rattle.weighing.proofs.paired_number.Statement.{statement}
 use Rattle.weighing.proofs.paired_number.Tie as tie
 

@@ -8,14 +8,13 @@ use lib.Dec.{leb, ltb, leb·zero}
 use lib.IntN.{pos, negsuc, _-ℤ_}
 use lib.Signed.{leZ, _≤ℤ_}
 use borrow.Author.Tests.{le-leb, lt-leb, leb-true, leb-false, ltb-false, not-false}
-use Rattle.laws.specs.Tests.{left, right, isnt, or-self, not-left, not-right, ltb-not}
+use Rattle.laws.specs.Tests.{left, right, isnt, not-left, not-right, ltb-not}
 use Rattle.laws.specs.Z.{zs, goal-leZ, goal-nleZ, is-nat, is-sub}
 use Rattle.paper.proofs.Units.{arm-range}
 use Rattle.paper.specs.declared.Weighing.{Weighing}
-use Rattle.paper.specs.declared.Paired.{Paired}
 use Rattle.paper.specs.Units.{between, isWeight, isArm}
-use Rattle.paper.specs.Record.{paired, totalOf}
-use Rattle.paper.specs.Refusals.{badReading, badDistance, badPart, either}
+use Rattle.paper.specs.Record.{totalOf}
+use Rattle.paper.specs.Refusals.{badReading, badDistance, badPart}
 
 -- a difference as a total
 lift : (p q : ℕ) → p ≤ 2000000 → not (between (pos 1) (pos 2000000) (pos p -ℤ pos q)) ≡ leb p q
@@ -138,8 +137,3 @@ module _ (w : Weighing) (near : badDistance w ≡ false) where
   pub a-range : (negsuc 1999999 ≤ℤ w .a) × (w .a ≤ℤ pos 2000000)
   unfolding badDistance
   a-range = arm-range (w .a) (not-false _ (not-left (not (isArm (w .a))) (not (leb 1 (w .b) && leb (w .b) 2000000)) near))
-
--- the readings of a paired weighing have the same distances
-pub same-distances : (x : Paired) → either badDistance (paired x) ≡ badDistance (paired x .first)
-unfolding badDistance
-same-distances x = or-self _

@@ -1,9 +1,9 @@
--- `weighing::bad_sum` meets its contract: each way out computes the two tests. Assumes nothing.
+-- `reading::bad_sum` meets its contract: each way out computes the two tests. Assumes nothing.
 use borrow.Author.Needs.{needs}
 use borrow.Author.Tests.{lt-leb, le-leb}
 use Rattle.laws.specs.Tests.{ltb-not}
-use Rattle.weighing.proofs.bad_sum.Statement.{statement}
-use Rattle.weighing.proofs.bad_sum.Tie as tie
+use Rattle.reading.proofs.bad_sum.Statement.{statement}
+use Rattle.reading.proofs.bad_sum.Tie as tie
 
 add-if1 : tie.Need-add-if1
 add-if1 c = search needs

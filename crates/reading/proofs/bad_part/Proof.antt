@@ -1,8 +1,8 @@
--- `weighing::bad_part` meets its contract: each way out computes the two tests. Assumes nothing.
+-- `reading::bad_part` meets its contract: each way out computes the two tests. Assumes nothing.
 use borrow.Author.Tests.{lt-ltb, le-leb}
 use Rattle.laws.specs.Tests.{ltb-not}
-use Rattle.weighing.proofs.bad_part.Statement.{statement}
-use Rattle.weighing.proofs.bad_part.Tie as tie
+use Rattle.reading.proofs.bad_part.Statement.{statement}
+use Rattle.reading.proofs.bad_part.Tie as tie
 
 returns : tie.Need-returns
 returns c = simp (lt-ltb _ _ (c .if1 .taken))

@@ -1,10 +1,10 @@
--- `weighing::reckoned` meets its contract: G by `total`, M by `moment_of`, n as given. Assumes nothing.
+-- `reading::reckoned` meets its contract: G by `total`, M by `moment_of`, n as given. Assumes nothing.
 use borrow.Author.Needs.{needs}
 use borrow.Author.Tests.{ltb-false}
 use mathlib.Core.Path.{refl, sym, _∙_}
-use Rattle.weighing.proofs.Readings.{n-test}
-use Rattle.weighing.proofs.reckoned.Statement.{statement}
-use Rattle.weighing.proofs.reckoned.Tie as tie
+use Rattle.reading.proofs.Conditions.{n-test}
+use Rattle.reading.proofs.reckoned.Statement.{statement}
+use Rattle.reading.proofs.reckoned.Tie as tie
 
 moment-of-requires : tie.Need-moment-of-requires
 moment-of-requires c κs = search needs

@@ -1,8 +1,8 @@
--- `weighing::bad_nonlifting` meets its contract: n against G. Assumes nothing.
+-- `reading::bad_nonlifting` meets its contract: n against G. Assumes nothing.
 use mathlib.Core.Path.{sym}
-use Rattle.weighing.proofs.Readings.{n-test}
-use Rattle.weighing.proofs.bad_nonlifting.Statement.{statement}
-use Rattle.weighing.proofs.bad_nonlifting.Tie as tie
+use Rattle.reading.proofs.Conditions.{n-test}
+use Rattle.reading.proofs.bad_nonlifting.Statement.{statement}
+use Rattle.reading.proofs.bad_nonlifting.Tie as tie
 
 total-requires : tie.Need-total-requires
 total-requires c κs = c .pre

@@ -1,4 +1,4 @@
--- `weighing::bad_distance` meets its contract: each way out computes the tests so far. Assumes nothing.
+-- `reading::bad_distance` meets its contract: each way out computes the tests so far. Assumes nothing.
 use borrow.Author.Needs.{needs}
 use borrow.Author.Tests.{lt-leb, le-leb}
 use mathlib.Core.Path.{_≡_, sym}
@@ -7,8 +7,8 @@ use mir.Facts.{toZ-ofZ}
 use Rattle.laws.specs.Tests.{ltb-not}
 use Rattle.paper.specs.Units.{isArm}
 use Rattle.paper.specs.Refusals.{badDistance}
-use Rattle.weighing.proofs.bad_distance.Statement.{statement}
-use Rattle.weighing.proofs.bad_distance.Tie as tie
+use Rattle.reading.proofs.bad_distance.Statement.{statement}
+use Rattle.reading.proofs.bad_distance.Tie as tie
 
 holds-requires : tie.Need-holds-requires
 holds-requires c κs = search needs

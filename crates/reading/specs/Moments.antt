@@ -3,7 +3,7 @@ use mathlib.Core.Path.{_≡_}
 use Prim.Native.Nat.{ℕ, _≤_}
 use Rattle.laws.specs.declared.Sides.{Sides}
 use Rattle.paper.specs.declared.Weighing.{Weighing}
-use Rattle.weighing.specs.declared.Moment.{Moment}
+use Rattle.reading.specs.declared.Moment.{Moment}
 
 -- two products of a weight and an arm: what a reading adds to a side of the moment at most, in grams
 abbrev pub twoProducts : ℕ

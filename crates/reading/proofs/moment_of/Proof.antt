@@ -1,14 +1,14 @@
--- `weighing::moment_of` meets its contract: each method by its law. Assumes nothing.
+-- `reading::moment_of` meets its contract: each method by its law. Assumes nothing.
 use mathlib.Core.Path.{_≡_}
 use Prim.Native.Nat.{_≤_}
 use native.Mathlib.Omega.{arith}
 use mir.Facts.{toZ-ofZ}
 use Rattle.laws.specs.Z.{SidesOf}
-use Rattle.weighing.specs.Moments.{InRange}
-use Rattle.weighing.proofs.Readings.{p-most, q-most, b-most, a-range, in-2, in-4, last}
-use Rattle.weighing.proofs.Moments.{moment-1, moment-2, moment-3, moment-4}
-use Rattle.weighing.proofs.moment_of.Statement.{statement}
-use Rattle.weighing.proofs.moment_of.Tie as tie
+use Rattle.reading.specs.Moments.{InRange}
+use Rattle.reading.proofs.Conditions.{p-most, q-most, b-most, a-range, in-2, in-4, last}
+use Rattle.reading.proofs.Moments.{moment-1, moment-2, moment-3, moment-4}
+use Rattle.reading.proofs.moment_of.Statement.{statement}
+use Rattle.reading.proofs.moment_of.Tie as tie
 
 split-requires : tie.Need-split-requires
 split-requires c κs =

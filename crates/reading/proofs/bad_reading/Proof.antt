@@ -1,10 +1,10 @@
--- `weighing::bad_reading` meets its contract: each way out by the law of its method. Assumes nothing.
+-- `reading::bad_reading` meets its contract: each way out by the law of its method. Assumes nothing.
 use borrow.Author.Needs.{needs}
 use mathlib.Core.Path.{sym, _∙_}
 use native.Mathlib.Omega.{arith}
-use Rattle.weighing.proofs.Readings.{p-over, q-over, method-1, method-2, method-3, method-4, no-method}
-use Rattle.weighing.proofs.bad_reading.Statement.{statement}
-use Rattle.weighing.proofs.bad_reading.Tie as tie
+use Rattle.reading.proofs.Conditions.{p-over, q-over, method-1, method-2, method-3, method-4, no-method}
+use Rattle.reading.proofs.bad_reading.Statement.{statement}
+use Rattle.reading.proofs.bad_reading.Tie as tie
 
 returns : tie.Need-returns
 returns c = sym (p-over _ (c .if1 .taken))

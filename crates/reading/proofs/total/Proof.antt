@@ -1,9 +1,9 @@
--- `weighing::total` meets its contract: each way out by the law of its method. Assumes nothing.
+-- `reading::total` meets its contract: each way out by the law of its method. Assumes nothing.
 use mathlib.Core.Path.{_≡_}
 use native.Mathlib.Omega.{arith}
-use Rattle.weighing.proofs.Readings.{p-most, q-most, in-4, last, total-1, total-2, total-3, total-4}
-use Rattle.weighing.proofs.total.Statement.{statement}
-use Rattle.weighing.proofs.total.Tie as tie
+use Rattle.reading.proofs.Conditions.{p-most, q-most, in-4, last, total-1, total-2, total-3, total-4}
+use Rattle.reading.proofs.total.Statement.{statement}
+use Rattle.reading.proofs.total.Tie as tie
 
 returns : tie.Need-returns
 returns c = total-1 _ (c .before .before .pre) (c .if1 .taken)

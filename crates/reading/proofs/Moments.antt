@@ -1,13 +1,12 @@
--- The moment of a reading as what turns aft less what turns forward: each method by the two sides u and d of the distance a,
--- and two readings by adding their sides. Assumes nothing.
+-- The moment of a reading as what turns aft less what turns forward: each method by the two sides u and d of the distance a.
+-- Assumes nothing.
 use mathlib.Core.Path.{_≡_, ap}
 use Prim.Native.Nat.{ℕ, _+_, _-_, _*_, _≤_}
 use native.Mathlib.Omega.{arith}
-use lib.IntN.{ℤ, pos, _+ℤ_, _-ℤ_}
-use Rattle.laws.specs.Z.{zs, Is, SidesOf, is-sides, is-nat, is-int, is-add, is-sub, is-mul}
+use lib.IntN.{pos, _-ℤ_}
+use Rattle.laws.specs.Z.{zs, Is, SidesOf, is-sides, is-nat, is-add, is-sub, is-mul}
 use Rattle.paper.specs.declared.Weighing.{Weighing}
 use Rattle.paper.specs.Record.{totalOf, momentOf}
-use Rattle.weighing.specs.declared.Reading.{Reading}
 
 module _ (w : Weighing) (u d x y : ℕ) (e : SidesOf (w .a) u d) where
   -- what the contract says
@@ -65,15 +64,3 @@ module _ (w : Weighing) (u d x y : ℕ) (e : SidesOf (w .a) u d) where
           times d,
           is-sub (is-mul (is-sub (is-nat (w .p)) (is-nat (w .q))) a) (is-mul (is-nat (w .q)) (is-nat (w .b))),
         ))
-
--- the sides of two moments added up
-pub sides-added : (r s : Reading) {x y : ℤ} → pos (r .aft) -ℤ pos (r .fore) ≡ x → pos (s .aft) -ℤ pos (s .fore) ≡ y → pos (r .aft + s .aft) -ℤ pos (r .fore + s .fore) ≡ x +ℤ y
-sides-added r s {x} {y} e f =
-    omega (
-      arith,
-      zs,
-      is-sub (is-nat (r .aft)) (is-nat (r .fore)),
-      is-sub (is-nat (s .aft)) (is-nat (s .fore)),
-      is-sub (is-nat (r .aft + s .aft)) (is-nat (r .fore + s .fore)),
-      is-add (is-int x) (is-int y),
-    )

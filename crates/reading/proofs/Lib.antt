@@ -1,0 +1,3 @@
+-- What the proofs share: the conditions of a reading, and its moment by method.
+pub mod Conditions
+pub mod Moments

@@ -1,0 +1,3 @@
+-- What the methods of a weighing ask and say, and what a reading says.
+pub mod Moments
+pub mod Readings
