@@ -8,9 +8,10 @@ use Rattle.laws.specs.Written.{written, written-first, written-follows}
 use Rattle.paper.specs.declared.Entry.{Entry}
 use Rattle.paper.specs.File.{fileBytes}
 use Rattle.paper.specs.Answers.{over}
-use Rattle.stored.specs.Header.{headerOf}
+use Rattle.header.specs.Header.{headerOf}
 use Rattle.stored.specs.Found.{bytesIn}
-use Rattle.stored.proofs.Parts.{length-header, file-parts, file-size}
+use Rattle.header.proofs.Putting.{length-header}
+use Rattle.stored.proofs.Parts.{file-parts, file-size}
 
 all-put : (es : List Entry) (s : List ℕ) → length (fileBytes es) ≤ length s → written (written s 0 (headerOf (length (fileBytes es) - 4) (length es))) 6 (bytesIn es) ≡ over (fileBytes es) s
 unfolding over

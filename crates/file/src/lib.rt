@@ -1,12 +1,12 @@
 // The record's file: writing a record into a lent buffer, and reading one back from any bytes.
 use entries::Walk;
+use header::HEADER;
 use judge::Judged;
 use judge::Standing;
 use paper::Written;
 use record::Kept;
 use record::Record;
 use record::Slot;
-use stored::HEADER;
 ghost use mathlib.Core.Path.{_≡_};
 ghost use mathlib.Core.List.{map};
 ghost use Prim.Native.Nat.{_≤_};
@@ -73,7 +73,7 @@ pub fn write(r: Record, out: &mut [u8]) -> Written
             length: 0,
         };
     }
-    stored::put_header(out, length - 4, log.count);
+    header::put_header(out, length - 4, log.count);
     put_entries(out, log);
     Written { number: 0, length }
 }
@@ -82,10 +82,10 @@ pub fn write(r: Record, out: &mut [u8]) -> Written
 pub fn read(r: Record, s: &[u8]) -> Kept
     ensures { λ k. ⌜ k ≡ answered r (journal.read (now (s .entry))) ⌝ }
 {
-    if !stored::is_headed(s) {
+    if !header::is_headed(s) {
         return Kept { number: 12, log: r };
     }
-    let kinds = stored::last_kind(s[4]);
+    let kinds = header::last_kind(s[4]);
     let count = s[5] as usize;
     let mut log = Record::fresh();
     let mut standing = Standing::Unweighed;

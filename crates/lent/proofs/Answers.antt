@@ -20,7 +20,7 @@ use Rattle.paper.specs.Journal.{Call, undo, read, callOf, callNumber, acceptedC
 use Rattle.paper.proofs.Lists.{last-apart}
 use Rattle.format.specs.Files.{same-length, file-accepted}
 use Rattle.record.proofs.Calls.{undo-bare, undo-some}
-use Rattle.stored.specs.Header.{headerOf}
+use Rattle.header.specs.Header.{headerOf}
 use Rattle.stored.specs.Found.{bytesIn}
 use Rattle.stored.proofs.Parts.{file-size, too-short, long-enough}
 use Rattle.front.specs.Front.{heldIn}

@@ -14,9 +14,10 @@ use Rattle.paper.specs.File.{entryBytes, fileAs, fileBytes}
 use Rattle.paper.specs.Answers.{over}
 use Rattle.paper.specs.Journal.{withoutLast}
 use Rattle.paper.proofs.Lists.{joined-last, last-apart}
-use Rattle.stored.specs.Header.{headerOf}
+use Rattle.header.specs.Header.{headerOf}
 use Rattle.stored.specs.Found.{bytesIn}
-use Rattle.stored.proofs.Parts.{length-header, file-parts, file-size, entries-behind}
+use Rattle.header.proofs.Putting.{length-header}
+use Rattle.stored.proofs.Parts.{file-parts, file-size, entries-behind}
 use Rattle.front.proofs.Fronts.{behind-header}
 
 -- the bytes of one entry more

@@ -1,10 +1,10 @@
 // The calls that change a record which is lent as its file at the front of a buffer. The file is surveyed in place and changed in
 // place; what stands behind it in the buffer is free and stays. Each call answers by the paper's number, 0 where it is accepted.
 // A file of an older version is taken as it is, and the first call that changes it leaves it in the version that is written.
+use header::HEADER;
+use header::VERSION;
 use paper::Entry;
-use stored::HEADER;
 use stored::Stored;
-use stored::VERSION;
 ghost use mathlib.Core.Path.{_≡_};
 ghost use mathlib.Core.List.{List, [], _∷_, _++_};
 ghost use Prim.Native.Nat.{ℕ, _≤_, _<_};
@@ -21,7 +21,7 @@ pub fn fresh(buffer: &mut [u8]) -> u64
     if buffer.len() < HEADER {
         return 11;
     }
-    stored::put_header(buffer, 2, 0);
+    header::put_header(buffer, 2, 0);
     0
 }
 
@@ -34,7 +34,7 @@ fn append(buffer: &mut [u8], end: usize, count: usize, e: Entry) -> u64
         return 11;
     }
     let behind = entries::put_entry(buffer, end, e);
-    stored::put_header(buffer, behind - 4, count + 1);
+    header::put_header(buffer, behind - 4, count + 1);
     0
 }
 
@@ -63,7 +63,7 @@ pub fn undo(buffer: &mut [u8]) -> u64
     if found.count == 0 {
         return 10;
     }
-    stored::put_header(buffer, found.last - 4, found.count - 1);
+    header::put_header(buffer, found.last - 4, found.count - 1);
     0
 }
 

@@ -1,4 +1,4 @@
--- Which bytes have a right header, and what they are laid out as then: by the paper's tests, in its order. Assumes nothing.
+-- What bytes are laid out as, by whether their header is right: by the paper's tests, in its order. Assumes nothing.
 use mathlib.Core.Path.{_≡_, refl, sym, ap, _∙_}
 use mathlib.Core.Bool.{true, false, cond, _&&_, and-false}
 use mathlib.Core.List.{List, [], _∷_}
@@ -20,33 +20,9 @@ use Rattle.format.specs.Numbers.{bytes-drop}
 use Rattle.format.specs.Entries.{entries-written}
 use Rattle.format.specs.Files.{only-kinds}
 use Rattle.judge.proofs.Accepted.{at-most-64}
-use Rattle.stored.specs.Header.{headed}
+use Rattle.header.specs.Header.{headed}
+use Rattle.header.proofs.Judging.{too-few}
 use Rattle.stored.specs.Kinds.{entriesTo}
-
-pub too-few : (xs : List ℕ) → length xs < 6 → headed xs ≡ false
-unfolding headed
-too-few xs h = simp (lt-leb 6 (length xs) h)
-
-pub enough-bytes : (xs : List ℕ) → headed xs ≡ true → 6 ≤ length xs
-unfolding headed
-enough-bytes xs h =
-    let a = leb 6 (length xs) in
-    let b = eqb (numberOf (take 4 xs)) (length xs - 4) in
-    leb-true 6 (length xs) (left a b (left (a && b) (isVersion (getD xs 4 0)) h))
-
--- n is the number that the first four spell
-module _ (xs : List ℕ) (n : ℕ) (e : n ≡ numberOf (take 4 xs)) where
-  pub by-version : 6 ≤ length xs → n ≡ length xs - 4 → isVersion (getD xs 4 0) ≡ headed xs
-  unfolding headed
-  by-version h f = simp (le-leb 6 (length xs) h, eq-eqb (numberOf (take 4 xs)) (length xs - 4) (sym e ∙ f))
-
-  pub by-length : (n ≡ length xs - 4 → ⊥) → eqb n (length xs - 4) ≡ headed xs
-  unfolding headed
-  by-length f =
-      ne-eqb n (length xs - 4) f
-      ∙ sym (simp (ne-eqb (numberOf (take 4 xs)) (length xs - 4) (λ g. f (e ∙ g)), and-false))
-
--- ---- what the bytes are laid out as
 
 -- entries of a version's kinds, by the version and the count that stand in front of them
 abbrev listed : ℕ → ℕ → List ℕ → Option (List Entry)

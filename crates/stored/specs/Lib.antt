@@ -1,4 +1,3 @@
--- The header of a file, the kinds of its version, and what is found in one.
-pub mod Header
+-- The kinds of a version, and what is found in a file.
 pub mod Kinds
 pub mod Found

@@ -14,9 +14,10 @@ use Rattle.paper.specs.Refusals.{fileOf}
 use Rattle.format.specs.Numbers.{bytes-at}
 use Rattle.judge.proofs.Judging.{room-of}
 use Rattle.entries.specs.declared.Walk.the-variants.{Got}
-use Rattle.stored.specs.Header.{headed}
+use Rattle.header.specs.Header.{headed}
 use Rattle.stored.specs.Kinds.{entriesTo, walkTo}
-use Rattle.stored.proofs.Headers.{enough-bytes, bad-header, good-header}
+use Rattle.header.proofs.Judging.{enough-bytes}
+use Rattle.stored.proofs.Headers.{bad-header, good-header}
 use Rattle.stored.proofs.Reading.{no-entry, left-over, all-passed}
 use Rattle.file.proofs.Reading.{ReadTo, begun, sound-in, refused, one-more, no-file, a-file}
 use Rattle.file.proofs.read.Statement.{statement}

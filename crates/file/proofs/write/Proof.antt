@@ -9,7 +9,8 @@ use Rattle.paper.specs.File.{fileBytes}
 use Rattle.record.specs.Held.{slotted, heldBy}
 use Rattle.record.proofs.Lists.{slotted-record}
 use Rattle.record.proofs.Replays.{count-is, held-most}
-use Rattle.stored.proofs.Parts.{header-length, file-size, too-short, long-enough}
+use Rattle.header.proofs.Putting.{header-length}
+use Rattle.stored.proofs.Parts.{file-size, too-short, long-enough}
 use Rattle.file.proofs.Writing.{put-in-all}
 use Rattle.file.proofs.write.Statement.{statement}
 use Rattle.file.proofs.write.Tie as tie

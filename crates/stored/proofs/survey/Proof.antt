@@ -6,8 +6,9 @@ use native.Mathlib.Omega.{arith}
 use lib.Pow.{areBytes}
 use Rattle.laws.specs.Tests.{failed, passed}
 use Rattle.format.specs.Numbers.{bytes-at}
-use Rattle.stored.specs.Header.{headed}
-use Rattle.stored.proofs.Headers.{enough-bytes, bad-header, good-header, too-many}
+use Rattle.header.specs.Header.{headed}
+use Rattle.header.proofs.Judging.{enough-bytes}
+use Rattle.stored.proofs.Headers.{bad-header, good-header, too-many}
 use Rattle.stored.proofs.survey.Statement.{statement}
 use Rattle.stored.proofs.survey.Tie as tie
 

@@ -1,4 +1,4 @@
--- `stored::put_header` meets its contract: three parts, one behind the other. Assumes nothing.
+-- `header::put_header` meets its contract: three parts, one behind the other. Assumes nothing.
 use mathlib.Core.Path.{_≡_, ap, _∙_}
 use mathlib.Core.List.{List}
 use Prim.Native.Nat.{ℕ}
@@ -7,10 +7,10 @@ use borrow.Author.Needs.{needs}
 use lib.ListN.{length, set}
 use Rattle.laws.specs.Written.{written, length-written, set-within}
 use Rattle.paper.specs.File.{bytesOf}
-use Rattle.stored.specs.Header.{headerOf}
-use Rattle.stored.proofs.Parts.{length-header, length-sized, header-put}
-use Rattle.stored.proofs.put_header.Statement.{statement}
-use Rattle.stored.proofs.put_header.Tie as tie
+use Rattle.header.specs.Header.{headerOf}
+use Rattle.header.proofs.Putting.{length-header, length-sized, header-put}
+use Rattle.header.proofs.put_header.Statement.{statement}
+use Rattle.header.proofs.put_header.Tie as tie
 
 put-number-requires : tie.Need-put-number-requires
 put-number-requires c κs = search needs

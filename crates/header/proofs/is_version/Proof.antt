@@ -1,8 +1,8 @@
--- `stored::is_version` meets its contract: its tests are the definition's. Assumes nothing.
+-- `header::is_version` meets its contract: its tests are the definition's. Assumes nothing.
 use borrow.Author.Tests.{eq-eqb, ne-eqb}
 use Rattle.paper.specs.File.{isVersion}
-use Rattle.stored.proofs.is_version.Statement.{statement}
-use Rattle.stored.proofs.is_version.Tie as tie
+use Rattle.header.proofs.is_version.Statement.{statement}
+use Rattle.header.proofs.is_version.Tie as tie
 
 returns : tie.Need-returns
 unfolding isVersion

@@ -1,8 +1,8 @@
--- `stored::last_kind` meets its contract: its test is the definition's. Assumes nothing.
+-- `header::last_kind` meets its contract: its test is the definition's. Assumes nothing.
 use borrow.Author.Tests.{eq-eqb, ne-eqb}
 use Rattle.paper.specs.File.{lastKind}
-use Rattle.stored.proofs.last_kind.Statement.{statement}
-use Rattle.stored.proofs.last_kind.Tie as tie
+use Rattle.header.proofs.last_kind.Statement.{statement}
+use Rattle.header.proofs.last_kind.Tie as tie
 
 returns : tie.Need-returns
 unfolding lastKind

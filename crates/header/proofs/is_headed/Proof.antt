@@ -1,9 +1,9 @@
--- `stored::is_headed` meets its contract: its tests are those of the header, in its order. Assumes nothing.
+-- `header::is_headed` meets its contract: its tests are those of the header, in its order. Assumes nothing.
 use borrow.Author.Needs.{needs}
 use mathlib.Core.Path.{sym, _∙_}
-use Rattle.stored.proofs.Headers.{too-few, by-version, by-length}
-use Rattle.stored.proofs.is_headed.Statement.{statement}
-use Rattle.stored.proofs.is_headed.Tie as tie
+use Rattle.header.proofs.Judging.{too-few, by-version, by-length}
+use Rattle.header.proofs.is_headed.Statement.{statement}
+use Rattle.header.proofs.is_headed.Tie as tie
 
 returns : tie.Need-returns
 returns c = sym (too-few (c .before .before .args .s .now) (c .if1 .taken))

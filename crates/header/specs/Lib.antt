@@ -1,0 +1,2 @@
+-- The header of a file.
+pub mod Header
