@@ -45,7 +45,7 @@ fn weighing_from(s: &[u8], from: usize) -> Walk
     if s.len() - from < 21 {
         return Walk::Nothing;
     }
-    Walk::Got(layout::entry_of(1, fields::weighing_at(s, from)), from + 21)
+    Walk::Got(unpack::entry_of(1, fields::weighing_at(s, from)), from + 21)
 }
 
 // Behind the kind of a sheet.
@@ -56,7 +56,7 @@ fn sheet_from(s: &[u8], from: usize) -> Walk
     if s.len() - from < 60 {
         return Walk::Nothing;
     }
-    Walk::Got(layout::entry_of(2, fields::sheet_at(s, from)), from + 60)
+    Walk::Got(unpack::entry_of(2, fields::sheet_at(s, from)), from + 60)
 }
 
 // Behind the kind of a change.
@@ -67,7 +67,7 @@ fn change_from(s: &[u8], from: usize) -> Walk
     if s.len() - from < 9 {
         return Walk::Nothing;
     }
-    Walk::Got(layout::entry_of(3, fields::change_at(s, from)), from + 9)
+    Walk::Got(unpack::entry_of(3, fields::change_at(s, from)), from + 9)
 }
 
 // Behind the kind of a paired weighing.
@@ -78,7 +78,7 @@ fn paired_from(s: &[u8], from: usize) -> Walk
     if s.len() - from < 29 {
         return Walk::Nothing;
     }
-    Walk::Got(layout::entry_of(4, fields::paired_at(s, from)), from + 29)
+    Walk::Got(unpack::entry_of(4, fields::paired_at(s, from)), from + 29)
 }
 
 // The entry at a place.

@@ -1,2 +1,2 @@
--- What the proofs share: the kinds of entry by their words.
-pub mod Forms
+-- What the proofs share: a kind that the table does not have.
+pub mod Rows

@@ -1,6 +1,6 @@
 -- What bytes are laid out as, by whether their header is right: by the paper's tests, in its order. Assumes nothing.
 use mathlib.Core.Path.{_≡_, refl, sym, ap, _∙_}
-use mathlib.Core.Bool.{true, false, cond, _&&_, and-false}
+use mathlib.Core.Bool.{true, false, cond, _&&_}
 use mathlib.Core.List.{List, [], _∷_}
 use mathlib.Core.Option.{Option, none, some, bind}
 use Prim.Native.Nat.{ℕ, _-_, _≤_, _<_}
@@ -10,9 +10,9 @@ use lib.Dec.{leb, eqb}
 use lib.ListN.{length, getD, take, drop, length-drop}
 use lib.Pow.{areBytes}
 use lib.Seq.{drop-drop, getD-drop}
-use borrow.Author.Tests.{le-leb, lt-leb, leb-true, eq-eqb, ne-eqb}
+use borrow.Author.Tests.{le-leb, lt-leb}
 use Rattle.laws.specs.Options.{none-either, tests-both}
-use Rattle.laws.specs.Tests.{left, isnt}
+use Rattle.laws.specs.Tests.{isnt}
 use Rattle.paper.specs.declared.Entry.{Entry}
 use Rattle.paper.specs.File.{numberOf, takeNumber, takeEntries, isVersion, lastKind, onlyKinds, takeBody, laidOut}
 use Rattle.paper.specs.Refusals.{accepted, onlyAccepted, fileOf}

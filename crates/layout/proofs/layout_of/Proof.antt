@@ -5,7 +5,7 @@ use Prim.Native.Nat.{ℕ}
 use Rattle.paper.specs.File.{layoutOf}
 use Rattle.format.specs.Fields.{widths, total}
 use Rattle.layout.specs.Table.{rowOf}
-use Rattle.layout.proofs.Forms.{no-row}
+use Rattle.layout.proofs.Rows.{no-row}
 use Rattle.layout.proofs.layout_of.Tie as tie
 
 returns : tie.Need-returns

@@ -1,11 +1,11 @@
--- `layout::paired_of` meets its contract: each field is a word, or the number that it stands for. Assumes nothing.
+-- `unpack::paired_of` meets its contract: each field is a word, or the number that it stands for. Assumes nothing.
 use borrow.Author.Needs.{needs}
 use mathlib.Core.Path.{_≡_}
 use lib.ListN.{length}
 use mir.Facts.{toZ-ofZ}
-use Rattle.layout.proofs.Forms.{paired-in}
-use Rattle.layout.proofs.paired_of.Statement.{statement}
-use Rattle.layout.proofs.paired_of.Tie as tie
+use Rattle.unpack.proofs.Forms.{paired-in}
+use Rattle.unpack.proofs.paired_of.Statement.{statement}
+use Rattle.unpack.proofs.paired_of.Tie as tie
 
 array-read-t5 : tie.Need-array-read-t5
 array-read-t5 c = search needs

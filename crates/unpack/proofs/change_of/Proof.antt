@@ -1,11 +1,11 @@
--- `layout::change_of` meets its contract: each field is a word, or the number that it stands for. Assumes nothing.
+-- `unpack::change_of` meets its contract: each field is a word, or the number that it stands for. Assumes nothing.
 use borrow.Author.Needs.{needs}
 use mathlib.Core.Path.{_≡_}
 use lib.ListN.{length}
 use mir.Facts.{toZ-ofZ}
-use Rattle.layout.proofs.Forms.{change-in}
-use Rattle.layout.proofs.change_of.Statement.{statement}
-use Rattle.layout.proofs.change_of.Tie as tie
+use Rattle.unpack.proofs.Forms.{change-in}
+use Rattle.unpack.proofs.change_of.Statement.{statement}
+use Rattle.unpack.proofs.change_of.Tie as tie
 
 array-read-signed : tie.Need-array-read-signed
 array-read-signed c = search needs

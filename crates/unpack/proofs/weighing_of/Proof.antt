@@ -1,11 +1,11 @@
--- `layout::weighing_of` meets its contract: each field is a word, or the number that it stands for. Assumes nothing.
+-- `unpack::weighing_of` meets its contract: each field is a word, or the number that it stands for. Assumes nothing.
 use borrow.Author.Needs.{needs}
 use mathlib.Core.Path.{_≡_}
 use lib.ListN.{length}
 use mir.Facts.{toZ-ofZ}
-use Rattle.layout.proofs.Forms.{weighing-in}
-use Rattle.layout.proofs.weighing_of.Statement.{statement}
-use Rattle.layout.proofs.weighing_of.Tie as tie
+use Rattle.unpack.proofs.Forms.{weighing-in}
+use Rattle.unpack.proofs.weighing_of.Statement.{statement}
+use Rattle.unpack.proofs.weighing_of.Tie as tie
 
 array-read-t5 : tie.Need-array-read-t5
 array-read-t5 c = search needs

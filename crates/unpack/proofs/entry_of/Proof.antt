@@ -1,11 +1,11 @@
--- `layout::entry_of` meets its contract: by the kind, and each kind by its own function. Assumes nothing.
+-- `unpack::entry_of` meets its contract: by the kind, and each kind by its own function. Assumes nothing.
 use borrow.Author.Needs.{needs}
 use mathlib.Core.Path.{sym, ap, _∙_}
 use Prim.Native.Nat.{ℕ}
 use Rattle.layout.specs.Table.{entryWith}
-use Rattle.layout.proofs.Forms.{last-row}
-use Rattle.layout.proofs.entry_of.Statement.{statement}
-use Rattle.layout.proofs.entry_of.Tie as tie
+use Rattle.unpack.proofs.Forms.{last-row}
+use Rattle.unpack.proofs.entry_of.Statement.{statement}
+use Rattle.unpack.proofs.entry_of.Tie as tie
 
 weighing-of-requires : tie.Need-weighing-of-requires
 weighing-of-requires c κs = search needs

@@ -1,5 +1,4 @@
--- Each kind of entry by its words and back, and its row of the table: all compute, once a list is taken by its elements.
--- Assumes nothing.
+-- Each kind of entry by its words: all compute, once a list is taken by its elements. Assumes nothing.
 use mathlib.Core.Path.{_≡_, refl, sym, ap}
 use mathlib.Core.Bool.{Bool, true, false, cond}
 use mathlib.Core.List.{List}
@@ -19,14 +18,9 @@ use Rattle.paper.specs.declared.Entry.the-variants as entry
 use Rattle.paper.specs.File.{signedWord, fieldValue, layoutOf, entryOf}
 use Rattle.paper.specs.Refusals.{isNone}
 use Rattle.format.specs.Fields.{valuesBy}
 use Rattle.layout.specs.Table.{entryWith}
 
--- ---- the table
-
-pub no-row : (k : ℕ) → (k ≡ 1 → ⊥) → (k ≡ 2 → ⊥) → (k ≡ 3 → ⊥) → (k ≡ 4 → ⊥) → layoutOf k ≡ none
-unfolding layoutOf
-no-row k a b c d = rw (ne-eqb k 1 a, ne-eqb k 2 b, ne-eqb k 3 c, ne-eqb k 4 d)
-
+-- the last kind of the table
 fourth : (t : Bool) (k : ℕ) → eqb k 4 ≡ t → isNone (cond t (layoutOf 4) none) ≡ false → k ≡ 4
 unfolding isNone
 fourth true k e h = eqb-true k 4 e

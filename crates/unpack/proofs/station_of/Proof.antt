@@ -1,8 +1,8 @@
--- `layout::station_of` meets its contract: its arm is the number that the word stands for. Assumes nothing.
+-- `unpack::station_of` meets its contract: its arm is the number that the word stands for. Assumes nothing.
 use borrow.Author.Needs.{needs}
 use mir.Facts.{toZ-ofZ}
-use Rattle.layout.proofs.station_of.Statement.{statement}
-use Rattle.layout.proofs.station_of.Tie as tie
+use Rattle.unpack.proofs.station_of.Statement.{statement}
+use Rattle.unpack.proofs.station_of.Tie as tie
 
 signed-requires : tie.Need-signed-requires
 signed-requires c κs = search needs
