@@ -180,7 +180,8 @@ uint64_t nodhulika_weigh_paired(uint8_t *buffer, size_t buffer_length,
  * nlp: the greatest non-lifting weight, 0..2,000,000 g; 0 is no limit.
  * front_arm: the arm of the front load.
  * front_least, front_most: the least and the greatest front load, 0..500,000 g;
- *    front_least <= front_most.
+ *    front_least <= front_most. A front load of 0 never keeps the limits: where
+ *    front_least is 0 a row begins at the next step at the earliest.
  * front_step: the step of the front load, 1..500,000 g.
  * rear_arm: the arm of the rear load.
  * rear_most: the greatest rear load, 0..500,000 g; 0 in a single-seater.
@@ -276,7 +277,8 @@ uint64_t nodhulika_centre(const uint8_t *buffer, size_t buffer_length,
  * smallest and largest front load, each as four digits of kilograms, a point
  * and three of grams, one space between and a line feed behind. The front loads
  * are the ends of those that keep every limit with any part of the water
- * aboard; both are eight hyphens, a blank row, where there is none.
+ * aboard, 0 never among them; both are eight hyphens, a blank row, where there
+ * is none.
  *
  * buffer: the record.
  * out: where the lines go, from its front; bytes behind the last stay, and no

@@ -1,4 +1,4 @@
-"""An independent reckoning of paper 01 and of paper 02's card 1 in whole numbers, to hold the programs against.
+"""An independent reckoning of paper 01 and of paper 02's cards 1 and 2 in whole numbers, to hold the programs against.
 
     python3 tools/oracle.py cases > crates/cases/stdout
     python3 tools/oracle.py files > crates/files/stdout
@@ -328,7 +328,8 @@ def keeps_with(s, balance, rear, p, v):
     weight = dry + HALVES * v
     moment = balance.moment + HALVES * (p * s.front_arm + rear * s.rear_arm + v * s.water_arm)
     return (
-        dry <= HALVES * s.dry
+        p >= 1
+        and dry <= HALVES * s.dry
         and weight <= HALVES * s.wet
         and (s.nlp == 0 or balance.nonlifting + HALVES * (p + rear) <= HALVES * s.nlp)
         and moment >= s.fwd * weight

@@ -20,6 +20,16 @@ def lax(**fields):
     return LAX._replace(**fields)
 
 
+def a_gram(**fields):
+    """One whose only front load is a gram."""
+    return lax(least_front=1, greatest_front=1, front_step=1, **fields)
+
+
+def fine(s):
+    """A sheet by the gram."""
+    return s._replace(front_step=1)
+
+
 def level(**fields):
     """A glider of 200 kg, half of it non-lifting."""
     return Weighing(1, 200000, 0, 0, 1, 100000)._replace(**fields)
@@ -337,15 +347,21 @@ def front_steps():
         ("56 to 56", 56000, 56000, 1000),
         ("none in 55.001 to 55.999", 55001, 55999, 1000),
         ("none in 55.5 to 55.5", 55500, 55500, 1000),
-        ("0 to 0", 0, 0, 1000),
-        ("0 to 0.999", 0, 999, 1000),
+        ("none above 0 in 0 to 0", 0, 0, 1000),
+        ("none above 0 in 0 to 0.999", 0, 999, 1000),
+        ("0 to 1", 0, 1000, 1000),
+        ("0.001 to 1", 1, 1000, 1000),
+        ("1 to 110", 1000, 110000, 1000),
         ("none in 0.001 to 0.999", 1, 999, 1000),
-        ("step 500, 0 to 499.999", 0, 499999, 500000),
+        ("step 500, none above 0 in 0 to 499.999", 0, 499999, 500000),
         ("step 500, 0 to 500", 0, 500000, 500000),
         ("step 500, 500 to 500", 500000, 500000, 500000),
         ("step 500, none in 0.001 to 499.999", 1, 499999, 500000),
         ("step 499.999", 0, 500000, 499999),
         ("step 0.001, 0 to 500", 0, 500000, 1),
+        ("step 0.001, none above 0 in 0 to 0", 0, 0, 1),
+        ("step 0.001, 0 to 0.001", 0, 1, 1),
+        ("step 0.001, 0.001 to 0.002", 1, 2, 1),
         ("step 0.001, 55.001 to 55.999", 55001, 55999, 1),
         ("step 0.007, 0.1 to 0.111", 100, 111, 7),
         ("step 0.007, none in 0.1 to 0.104", 100, 104, 7),
@@ -358,13 +374,13 @@ def front_steps():
 def weights():
     rears, waters = {"greatest_rear": 50000, "rear_step": 25000}, {"capacity": 100000, "water_step": 50000}
     sheets = (
-        *((f"DRY {dry}", lax(dry=dry)) for dry in (290000, 289999, 200999, 200000, 199999, 1)),
-        *((f"WET and DRY {dry}", lax(dry=dry, wet=dry)) for dry in (290000, 200000, 199999, 1)),
-        *((f"NLP {nlp}", lax(nlp=nlp, greatest_front=90000)) for nlp in (0, 180000, 179999, 100000, 99999, 1)),
+        *((f"DRY {dry}", lax(dry=dry)) for dry in (290000, 289999, 201000, 200999, 199999, 1)),
+        *((f"WET and DRY {dry}", lax(dry=dry, wet=dry)) for dry in (290000, 201000, 200999, 1)),
+        *((f"NLP {nlp}", lax(nlp=nlp, greatest_front=90000)) for nlp in (0, 180000, 179999, 101000, 100999, 1)),
         ("DRY without water, WET with it", lax(dry=290000, wet=340000, **waters)),
         ("WET = DRY", lax(dry=290000, wet=290000, **waters)),
         ("a kilogram of water over WET", lax(dry=250000, wet=250000, capacity=51000, water_step=25500, front_step=1)),
-        ("a gram of water over WET", lax(dry=200000, wet=200000, capacity=1)),
+        ("a gram of water over WET", lax(dry=201000, wet=201000, capacity=1)),
         ("DRY with rear loads", lax(dry=290000, **rears)),
         ("NLP with rear loads", lax(nlp=180000, **rears)),
         ("NLP with water", lax(nlp=180000, **waters)),
@@ -376,8 +392,36 @@ def weights():
     cases("weights", (level(),), *sheets)
     for label, change in (("lifting", Change(10000, 0, 0)), ("non-lifting", Change(10000, 0, 1))):
         printed(f"weights, {label} part", played((level(),), [change, lax(nlp=180000)]))
-    for n in (0, 1, 200000):
-        printed(f"weights, n {n}, NLP 1", played((level(n=n),), [lax(nlp=1)]))
+    for n in (0, 1, 2, 200000):
+        printed(f"weights, n {n}, NLP 2", played((level(n=n),), [fine(lax(nlp=2))]))
+
+
+def nobody():
+    """Rows where 0 alone would keep the limits are blank, and counted; the others begin at the next step."""
+    rears, waters = {"greatest_rear": 50000, "rear_step": 25000}, {"capacity": 50000, "water_step": 25000}
+    tight = lax(dry=250000, wet=250000)
+    aft = lax(fwd=0, aft=20000, front_arm=40000, rear_arm=33000, **rears)
+    fifty, half = (1, 50), (1, 25)
+    for label, w, s, ends in (
+        ("DRY", level(), lax(dry=200000), [None]),
+        ("DRY a kilogram above", level(), lax(dry=201000), [(1, 1)]),
+        ("DRY a gram above", level(), fine(lax(dry=200001)), [(0.001, 0.001)]),
+        ("DRY below the first step", level(), lax(dry=699999, front_step=MOST_SEAT), [None]),
+        ("DRY with rear loads", level(), lax(dry=250000, **rears), [fifty, half, None]),
+        ("DRY with rear loads, by the gram", level(), fine(lax(dry=250000, **rears)), [(0.001, 50), (0.001, 25), None]),
+        ("NLP with rear loads", level(), lax(nlp=150000, **rears), [fifty, half, None]),
+        ("WET with water", level(), tight._replace(**waters), [fifty, half, None]),
+        ("both", level(), tight._replace(**rears, **waters), [fifty, half, None, half] + 5 * [None]),
+        ("least above 0", level(), tight._replace(least_front=1, **rears), [fifty, half, None]),
+        ("FWD met", level(a=10000), lax(fwd=10000, front_arm=-10000), [None]),
+        ("FWD met, water ahead", level(a=10000), lax(fwd=10000, front_arm=-10000, **waters), 3 * [None]),
+        ("safe aft met", level(a=19000), lax(fwd=0, aft=20000, front_arm=50000), [None]),
+        ("safe aft met by rear load", level(a=15500), aft, [(1, 33), (1, 16), None]),
+    ):
+        assert ends_of((w, s)) == ends, label
+        printed(f"nobody, {label}", add((w,), s))
+    journal = in_turn("nobody", (level(), lax(dry=201000)), ("a kilogram more", Change(1000, 0, 0)))
+    in_turn("nobody", journal, ("read back", AGAIN), ("taken back", BACK), ("a gram less", Change(-1, 0, 0)))
 
 
 def limit(label, a, sheet, **more):
@@ -395,13 +439,13 @@ def limits_met():
     limit("forward missed by one", 18000, forward, m=4, p=200001, q=1)
     limit("forward missed by one, by the gram", 18000, forward._replace(front_step=1), m=4, p=200001, q=1)
     limit("forward met at 50, aft between steps", 24000, lax(fwd=0, aft=20000, front_arm=-96000))
-    half = lax(fwd=25000, aft=42510, greatest_front=0)
-    limit("safe aft 41634.5 met", 41634, half, p=2, q=1, n=0)
-    limit("safe aft 41634.5 missed by half", 41634, half, p=2, q=2, n=0)
+    half = a_gram(fwd=25000, aft=42510, front_arm=41634)
+    limit("safe aft 41634.5 met", 41634, half, p=1, q=1, n=0)
+    limit("safe aft 41634.5 missed by half", 41635, half, p=1, q=1, n=0)
     limit("safe aft 0.95", 0, lax(fwd=0, aft=1))
     limit("safe aft 0.95, centre 1", 1, lax(fwd=0, aft=1))
-    limit("safe aft 0.95 met", 0, lax(fwd=0, aft=1, greatest_front=0), p=20, q=19, n=0)
-    limit("safe aft 0.95 missed", 0, lax(fwd=0, aft=1, greatest_front=0), p=20, q=20, n=0)
+    limit("safe aft 0.95 met", 0, a_gram(fwd=0, aft=1), p=19, q=19, n=0)
+    limit("safe aft 0.95 missed", 0, a_gram(fwd=0, aft=1), p=20, q=20, n=0)
 
 
 def ahead():
@@ -419,13 +463,13 @@ def ahead():
 def front_arms():
     """Safe aft limit 29000. On a limit the load changes nothing of it: always or never."""
     for label, arm, centres in (
-        ("ahead of FWD", -50000, (9999, 10000, 29000, 29001, 45000, 300000)),
+        ("ahead of FWD", -50000, (9999, 10299, 10300, 29000, 29001, 45000, 300000)),
         ("on FWD", 10000, (9999, 10000, 29000, 29001, 45000, 300000)),
         ("between the limits", 20000, (0, 5000, 10000, 29000, 40000, 60000)),
         ("on the safe aft limit", 29000, (5000, 10000, 29000, 29001, 40000)),
-        ("between safe aft and AFT", 29500, (5000, 10000, 28999, 29000, 29001)),
-        ("on AFT", 30000, (5000, 10000, 28900, 29000, 29001)),
-        ("behind AFT", 50000, (5000, 10000, 25000, 29000, 29001)),
+        ("between safe aft and AFT", 29500, (5000, 10000, 28997, 28998, 29001)),
+        ("on AFT", 30000, (5000, 10000, 28900, 28995, 28996, 29001)),
+        ("behind AFT", 50000, (5000, 10000, 25000, 28895, 28896, 29001)),
     ):
         s = lax(fwd=10000, aft=30000, front_arm=arm)
         for centre in centres:
@@ -452,7 +496,9 @@ def greatest():
         ("all aft", 1, MOST, MOST, MOST, 7),
         ("all forward", 1, -MOST, -MOST, -MOST, 7),
         ("by turns", 1, MOST, -MOST, MOST, 7),
+        ("1499 kg", 1499000, -MOST, MOST, -MOST, 1000),
         ("1500 kg", 1500000, -MOST, MOST, -MOST, 1000),
+        ("1999 kg", 1999000, -MOST, MOST, -MOST, 1000),
         ("2000 kg", MOST, -MOST, MOST, -MOST, 1000),
     ):
         s = lax(front_arm=front, rear_arm=rear, water_arm=water, front_step=step, **loads)
@@ -490,11 +536,6 @@ def half(**fields):
     return as_pair(level(), p2=200001)._replace(**fields)
 
 
-def fine(s):
-    """A sheet by the gram."""
-    return s._replace(front_step=1)
-
-
 def pair_plates():
     g, g_sheet = G
     assert placard((as_pair(g), g_sheet), bytes(108)) == placard(G, bytes(108))
@@ -521,11 +562,11 @@ def pair_weights():
     """Half a gram over DRY or WET is over it; the non-lifting weight never has a half."""
     waters, rears = {"capacity": 100000, "water_step": 50000}, {"greatest_rear": 50000, "rear_step": 25000}
     sheets = (
-        *((f"DRY {dry}", lax(dry=dry)) for dry in (290000, 290001, 200000, 200001, 1)),
-        *((f"DRY {dry}, by the gram", fine(lax(dry=dry))) for dry in (290000, 290001, 200000, 200001)),
+        *((f"DRY {dry}", lax(dry=dry)) for dry in (290000, 290001, 201000, 201001, 1)),
+        *((f"DRY {dry}, by the gram", fine(lax(dry=dry))) for dry in (290000, 290001, 200001, 200002)),
         ("WET with water", lax(dry=290001, wet=340000, **waters)),
         ("WET with water, by the gram", fine(lax(dry=290000, wet=340000, **waters))),
-        ("a gram of water over WET", fine(lax(dry=200001, wet=200001, capacity=1))),
+        ("a gram of water over WET", fine(lax(dry=200002, wet=200002, capacity=1))),
         ("NLP 180000", lax(nlp=180000, **rears)),
         ("NLP 179999", lax(nlp=179999, **rears)),
         ("all with both", fine(lax(nlp=180001, dry=279999, wet=330007, **rears, **waters))),
@@ -538,7 +579,7 @@ def pair_limits():
     aft, forward = lax(fwd=0, aft=20000, front_arm=-1000), lax(fwd=10000, front_arm=-10000)
     met, more = as_pair(level(a=24000)), {"q2": 1}
     ahead, less = as_pair(level(a=18000)), {"m": 4, "p2": 200001, "q2": 1}
-    narrow = lax(fwd=25000, aft=42510, greatest_front=0)
+    narrow, least = a_gram(fwd=25000, aft=42510, front_arm=41635), a_gram(fwd=0, aft=1, front_arm=1)
     for label, w, s in (
         ("aft met at 50", met, aft),
         ("aft missed by a half", met._replace(**more), aft),
@@ -546,12 +587,12 @@ def pair_limits():
         ("forward met at 80", ahead, forward),
         ("forward missed by a half", ahead._replace(**less), forward),
         ("forward missed by a half, by the gram", ahead._replace(**less), fine(forward)),
-        ("safe aft 41634.5 met", Paired(1, 1, 1, 1, 0, 41634, 1, 0), narrow),
-        ("safe aft 41634.5 missed by a half", Paired(1, 1, 1, 1, 1, 41634, 1, 0), narrow),
-        ("safe aft 41634.5 of three halves", Paired(1, 1, 1, 2, 0, 41634, 1, 0), narrow),
-        ("safe aft 41634.5 of three halves, missed", Paired(1, 1, 0, 2, 2, 41634, 1, 0), narrow),
-        ("safe aft 0.95 met", Paired(1, 10, 9, 10, 10, 0, 1, 0), lax(fwd=0, aft=1, greatest_front=0)),
-        ("safe aft 0.95 missed", Paired(1, 10, 10, 10, 10, 0, 1, 0), lax(fwd=0, aft=1, greatest_front=0)),
+        ("safe aft 41634.5 met", Paired(1, 1, 0, 1, 0, 41634, 1, 0), narrow),
+        ("safe aft 41634.5 missed by a half", Paired(1, 1, 1, 1, 0, 41634, 1, 0), narrow),
+        ("safe aft 41634.5 of three halves", Paired(1, 1, 0, 2, 0, 41634, 1, 0), narrow),
+        ("safe aft 41634.5 of three halves, missed", Paired(1, 1, 0, 2, 1, 41634, 1, 0), narrow),
+        ("safe aft 0.95 met", Paired(1, 9, 8, 9, 9, 0, 1, 0), least),
+        ("safe aft 0.95 missed", Paired(1, 9, 9, 9, 9, 0, 1, 0), least),
         ("on the front arm", half(a=29000), lax(fwd=10000, aft=30000, front_arm=29000)),
         ("a half behind the front arm", half(a=29000, q=1), lax(fwd=10000, aft=30000, front_arm=29000)),
     ):
@@ -621,6 +662,7 @@ def report():
     full_lists()
     front_steps()
     weights()
+    nobody()
     limits_met()
     ahead()
     front_arms()

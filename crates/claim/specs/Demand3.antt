@@ -10,7 +10,7 @@
 --   Refusals  placardTooLong, placardNumber
 --   Answers   placardAnswer, over                                   over: bytes written into a buffer, those behind them stay
 -- Assumes nothing.
-use mathlib.Core.Path.{_≡_, ap}
+use mathlib.Core.Path.{_≡_, sym, ap, _∙_}
 use mathlib.Core.Bool.{true, false, not, _&&_}
 use mathlib.Core.List.{List}
 use mathlib.Core.Option.{some}
@@ -19,6 +19,7 @@ use lib.Dec.{eqb}
 use lib.ListN.{length}
 use Rattle.paper.specs.declared.Sheet.{Sheet}
 use Rattle.paper.specs.declared.Row.{Row}
+use Rattle.paper.specs.declared.Row.the-variants.{Range}
 use Rattle.paper.specs.declared.Entry.{Entry}
 use Rattle.paper.specs.declared.Placard.{Placard}
 use Rattle.paper.specs.Record.{Balance, balanceOf, sheetOf}
@@ -27,6 +28,7 @@ use Rattle.paper.specs.Placard.{text, textLength, blankCount, lineIn, ReadAs}
 use Rattle.paper.specs.Refusals.{accepted, placardTooLong, placardNumber}
 use Rattle.paper.specs.Answers.{over, placardAnswer}
 use Rattle.paper.specs.Journal.{weighingStands, sheetStands}
+use Rattle.planes.proofs.Rows.{range-occupied}
 use Rattle.line.proofs.Legible.{legible}
 use Rattle.claim.specs.Endings as endings
 use Rattle.claim.specs.Printed as printed
@@ -98,3 +100,10 @@ demanded numbers es ok answers lent a left n first second =
       none-missed = λ s b e w z i h rear water x l. printed.none-missed s b (rearOf s i) (waterOf s i) x (read es ok lent a left says s b e w z i h rear water x l .2);
       blank-exactly = λ s b e w z i h rear water x l. printed.blank-exactly s b (rearOf s i) (waterOf s i) x (read es ok lent a left says s b e w z i h rear water x l .2);
     }
+
+-- ---- what follows for the engraver: no range that is read off a given placard begins at 0, whatever the sheet's least load
+
+pub none-from-nought : {numbers : List ℕ} {es : List Entry} {answers lent : List ℕ} {a : Placard} {left : List ℕ} → Demand3 numbers es answers lent a left
+    → EachReading es a left (λ s b r w rear water x. (lo hi : ℕ) → x ≡ Range lo hi → 1 ≤ lo)
+none-from-nought d s b e w z i h rear water x l lo hi k =
+    range-occupied s b (rearOf s i) (waterOf s i) lo hi (sym (d .only-reading s b e w z i h rear water x l .2) ∙ k)

@@ -55,10 +55,14 @@ line-read es ok lent left s b e l i h =
 
 module _ (s : Sheet) (b : Balance) (r w : ℕ) (x : Row) (e : x ≡ row s b r w) where
   pub none-breaks : (p v : ℕ) → isStep s p ≡ true → inRange p x ≡ true → v ≤ w → breaksAt s b r p v ≡ false
-  none-breaks p v step range h = rows.none-breaks s b r w p v step (rw e at range) h
+  unfolding row
+  none-breaks p v step range h =
+      rows.breaks-none s b r p v (rows.each-kept (rows.limits-of s b r w) p v step (rw e at range) h)
 
   pub none-missed : (p : ℕ) → misses s b r w x p ≡ false
-  none-missed p = rw e (rows.none-missed s b r w p)
+  unfolding row misses
+  none-missed p = rw e (rows.none-missed (rows.limits-of s b r w) p)
 
   pub blank-exactly : (isBlank x ≡ true → (p : ℕ) → keeps s b r w p ≡ false) × (((p : ℕ) → keeps s b r w p ≡ false) → isBlank x ≡ true)
-  blank-exactly = rw e (rows.blank-none s b r w, rows.none-blank s b r w)
+  unfolding row
+  blank-exactly = rw e (rows.blank-none (rows.limits-of s b r w), rows.none-blank (rows.limits-of s b r w))

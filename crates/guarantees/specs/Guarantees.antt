@@ -15,6 +15,7 @@ use Rattle.laws.specs.Lists.{Each}
 use Rattle.laws.specs.Splits.{split}
 use Rattle.paper.specs.declared.Entry.{Entry}
 use Rattle.paper.specs.declared.Placard.{Placard}
+use Rattle.paper.specs.declared.Row.the-variants.{Range}
 use Rattle.paper.specs.declared.Written.{Written}
 use Rattle.paper.specs.Placard.{feed}
 use Rattle.paper.specs.File.{fileAs, fileBytes}
@@ -46,7 +47,8 @@ use Rattle.book.proofs.read.Reads as read-book
 use Rattle.listing.proofs.show.Reads as show
 use Rattle.listing.proofs.ReadAgain as read-again
 use Rattle.worked.specs.Table.{table, Says, A-to-K}
-use Rattle.claim.specs.Demand3.{Demand3}
+use Rattle.claim.specs.Demand3 as claim
+use Rattle.claim.specs.Demand3.{Demand3, EachReading}
 use Rattle.claim.specs.RecordCalls as on-record
 use Rattle.claim.specs.Buffers.{call-renewed, read-renewed, room-for-all}
 use Rattle.claim.specs.LibraryCalls as of-library
@@ -59,6 +61,11 @@ pub demand-3 : {calls : List Call} {r : Record} {answers : List ℕ} → on-reco
     → (κs : _) (o o′ : RefT (List ℕ)) (a : Placard) → placard.Post κs (r, (o, tt)) a (r, (o′, tt))
     → Demand3 (numbers calls) (journal calls) answers (now o) a (now o′)
 demand-3 = on-record.demand-3
+
+-- So no range that is read off such a placard, of a record or of the library, begins at 0, whatever the sheet's least load.
+pub none-from-nought : {numbers : List ℕ} {es : List Entry} {answers lent : List ℕ} {a : Placard} {left : List ℕ} → Demand3 numbers es answers lent a left
+    → EachReading es a left (λ s b r w rear water x. (lo hi : ℕ) → x ≡ Range lo hi → 1 ≤ lo)
+none-from-nought = claim.none-from-nought
 
 -- It is about something: every list of calls has a trace, and a placard call after it.
 pub every-list-runs : (calls : List Call) (lent : List ℕ) → on-record.Run calls lent

@@ -55,7 +55,7 @@ side-at t base front water e f g p v = rw (e, f, g)
 pub wider : (s : Side) → Within 1 s → Within 20 s
 wider s w = record { base = omega (arith, w .base); front = omega (arith, w .front); water = omega (arith, w .water) }
 
--- ---- the five lines of a sheet and a balance
+-- ---- the lines of a sheet and a balance
 
 -- no half grams are no grams
 no-halves : (n : ℕ) → eqb (2 * n) 0 ≡ eqb n 0
@@ -104,16 +104,18 @@ module _ (s : Sheet) (b : Balance) (a : Arms) (o : ArmsOf s a) where
     -- x is what turns aft, and y what turns forward
     pub keeps-limits : (x y : ℕ) → x ≡ b .aft + g .rear * a .seat .up + 2 * p * a .front .up + 2 * v * a .water .up
         → y ≡ b .fore + g .rear * a .seat .down + 2 * p * a .front .down + 2 * v * a .water .down
-        → (first second third fourth fifth : Bool)
+        → (front first second third fourth fifth : Bool)
+        → leb 1 p ≡ front
         → leb (weight + 2 * p + 2 * v * 0) (g .dry) ≡ first
         → leb (weight + 2 * p + 2 * v * 1) (g .wet) ≡ second
         → (eqb (g .nlp) 0 || leb (b .nonlifting + g .rear + 2 * p) (g .nlp)) ≡ third
         → leb (y + a .fwd .up * (weight + 2 * p + 2 * v)) (x + a .fwd .down * (weight + 2 * p + 2 * v)) ≡ fourth
         → leb (20 * x + (19 * a .aft .down + a .fwd .down) * (weight + 2 * p + 2 * v)) (20 * y + (19 * a .aft .up + a .fwd .up) * (weight + 2 * p + 2 * v)) ≡ fifth
-        → keepsAt s (plain b) rear p v ≡ (first && (second && (third && (fourth && (fifth && true)))))
-    keeps-limits x y ex ey t₁ t₂ t₃ t₄ t₅ e₁ e₂ e₃ e₄ e₅ =
+        → keepsAt s (plain b) rear p v ≡ (front && (first && (second && (third && (fourth && (fifth && true))))))
+    keeps-limits x y ex ey t₀ t₁ t₂ t₃ t₄ t₅ e₀ e₁ e₂ e₃ e₄ e₅ =
         let m = weight + 2 * p + 2 * v in
-        keeps-tests s (plain b) parts parts-of rear p v t₁ t₂ t₃ t₄ t₅
+        keeps-tests s (plain b) parts parts-of rear p v t₀ t₁ t₂ t₃ t₄ t₅
+        e₀
         (leb-by (halves parts rear p 0) (2 * s .dry + 0) (weight + 2 * p + 2 * v * 0) (g .dry) (omega (arith, k .rear)) (omega (arith, k .dry)) e₁)
         (leb-by (halves parts rear p v) (2 * s .wet + 0) (weight + 2 * p + 2 * v * 1) (g .wet) (omega (arith, k .rear)) (omega (arith, k .wet)) e₂)
         (unless (s .nlp) (g .nlp) (b .nonlifting + g .rear + 2 * p) (b .nonlifting + 2 * (p + rear)) (k .nlp) (omega (arith, k .rear)) e₃)

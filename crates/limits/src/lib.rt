@@ -15,7 +15,7 @@ ghost use Rattle.laws.specs.Lists.{Each};
 ghost use Rattle.paper.specs.Rows.{keepsAt};
 ghost use Rattle.paper.specs.Refusals.{firstNumber, sheetFaults};
 ghost use Rattle.balance.specs.Balance.{plain, Bounded};
-ghost use Rattle.planes.specs.Plane.{holds, allHold, Small};
+ghost use Rattle.planes.specs.Plane.{holds, Says, Small};
 ghost use Rattle.limits.specs.Turned.{InRange, ArmsOf, WeightsOf, sideAt, Within, SmallDoubled};
 
 // FWD, AFT and the arms of the three stations, each by its two sides.
@@ -67,6 +67,20 @@ fn in_grams(l: HalfPlane) -> HalfPlane
         gamma0: l.gamma0,
         gamma1: Weight::HALVES * l.gamma1,
         delta: Weight::HALVES * l.delta,
+    }
+}
+
+// Somebody is in the front seat: the load is one gram or more, whatever the water.
+fn occupied() -> HalfPlane
+    ensures { λ l. ⌜ ((p v : ℕ) → leb 1 p ≡ holds l p v) × Small l ⌝ }
+{
+    HalfPlane {
+        alpha0: 0,
+        alpha1: 0,
+        beta: 1,
+        gamma0: 1,
+        gamma1: 0,
+        delta: 0,
     }
 }
 
@@ -178,10 +192,11 @@ fn arms_of(s: Sheet) -> Arms
     }
 }
 
-// The lines in the paper's order: weight without water and with it, non-lifting weight, FWD, and the safe aft limit.
+// The lines in the definition's order: the front seat, weight without water and with it, non-lifting weight, FWD, and the safe
+// aft limit.
 pub fn limits(s: Sheet, b: Balance, rear: u64) -> [HalfPlane; LINES]
     requires { ⌜ (firstNumber (sheetFaults s) ≡ 0) × Bounded 1024 b × (rear ≤ 500000) ⌝ }
-    ensures { λ ls. ⌜ ((p v : ℕ) → keepsAt s (plain b) rear p v ≡ allHold ls p v) × Each Small ls ⌝ }
+    ensures { λ ls. ⌜ Says ls (keepsAt s (plain b) rear) × Each Small ls ⌝ }
 {
     let arms = arms_of(s);
     let given = half_grams(s, rear);
@@ -196,6 +211,7 @@ pub fn limits(s: Sheet, b: Balance, rear: u64) -> [HalfPlane; LINES]
         arms.water.down,
     );
     [
+        occupied(),
         weight_limit(weight, given.dry, 0),
         weight_limit(weight, given.wet, 1),
         non_lifting_limit(b.nonlifting + rear, given.nlp),

@@ -25,11 +25,12 @@ unfoldable pub atMost : ℕ → ℤ → Bool
 atMost most g = leZ g (halfGrams (pos most))
 
 -- the lines of limits, each as it holds or fails with v aboard:
--- the greatest weight without water, and with it; the greatest non-lifting weight, unless that is 0; the moment not ahead of
--- FWD, nor behind the safe aft limit, which is 5 % of the range inside AFT
+-- somebody in the front seat; the greatest weight without water, and with it; the greatest non-lifting weight, unless that is 0;
+-- the moment not ahead of FWD, nor behind the safe aft limit, which is 5 % of the range inside AFT
 unfoldable pub lines : Sheet → Balance → ℕ → ℕ → ℕ → List Bool
 lines s b r p v =
     let t = laden s b r p v in
+    leb 1 p ∷
     atMost (s .dry) (laden s b r p 0 .total) ∷
     atMost (s .wet) (t .total) ∷
     (eqb (s .nlp) 0 || atMost (s .nlp) (t .nonLifting)) ∷
@@ -57,7 +58,7 @@ unfoldable pub upTo : (ℕ → Bool) → ℕ → Bool
 upTo q zero = q zero
 upTo q (suc n) = elim (q (suc n)) [ true ↦ upTo q n | false ↦ false ]
 
--- a step: a multiple of the front step from least to greatest
+-- a step: a multiple of the front step from least to greatest; where least is 0, so is 0, a step that breaks a limit
 unfoldable pub isStep : Sheet → ℕ → Bool
 isStep s p = eqb (p % s .front .step) 0 && leb (s .least) p && leb p (s .front .most)
 

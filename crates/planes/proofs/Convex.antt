@@ -1,5 +1,5 @@
--- The limits grow evenly: what holds with no water and with all of it holds with every part, and what holds at two front
--- loads holds at each between them. Each line is a half-plane. Assumes nothing.
+-- Limits that some half-planes say grow evenly: what holds with no water and with all of it holds with every part, and what holds
+-- at two front loads holds at each between them. Which limits they are does not matter. Assumes nothing.
 use mathlib.Core.Path.{_≡_, refl, sym, ap, _∙_, fun-ext}
 use mathlib.Core.Bool.{Bool, true, _&&_}
 use mathlib.Core.List.{List, [], _∷_}
@@ -7,12 +7,9 @@ use Prim.Native.Nat.{ℕ, _+_, _-_, _*_, _≤_}
 use native.Mathlib.Omega.{arith}
 use Rattle.laws.specs.Tests.{both, left, right, and-swapped}
 use Rattle.laws.specs.Slopes.{between}
-use Rattle.paper.specs.declared.Sheet.{Sheet}
-use Rattle.paper.specs.Record.{Balance}
-use Rattle.paper.specs.Rows.{keepsAt, upTo}
+use Rattle.paper.specs.Rows.{upTo}
 use Rattle.planes.specs.declared.HalfPlane.{HalfPlane}
-use Rattle.planes.specs.Plane.{holds, allHold}
-use Rattle.planes.proofs.Lines.{planesOf, keeps-planes}
+use Rattle.planes.specs.Plane.{holds, allHold, Says}
 use Rattle.planes.proofs.Water.{keeps-plane, plane-kept, ends-decide, all-hold-more, all-hold-none}
 
 -- ---- the water
@@ -23,14 +20,6 @@ both-planes [] p w = all-hold-none p w
 both-planes (l ∷ ls) p w =
     all-hold-more l ls p w
     ∙ rw (ends-decide l p w, both-planes ls p w) (and-swapped (holds l p 0) (holds l p w) (allHold ls p 0) (allHold ls p w))
-
--- none of the water and all of it decide
-pub both-ends : (s : Sheet) (b : Balance) (r p w : ℕ) → upTo (keepsAt s b r p) w ≡ (keepsAt s b r p 0 && keepsAt s b r p w)
-both-ends s b r p w =
-    let ls = planesOf s b r in
-    ap (λ (q : ℕ → Bool). upTo q w) (fun-ext (λ v. keeps-planes s b r p v))
-    ∙ both-planes ls p w
-    ∙ rw (keeps-planes s b r p 0, keeps-planes s b r p w)
 
 -- ---- the front load
 
@@ -55,7 +44,14 @@ planes-between (l ∷ ls) v lo p hi h k e f =
     (plane-between l v lo p hi h k (left (holds l lo v) (allHold ls lo v) e) (left (holds l hi v) (allHold ls hi v) f))
     (planes-between ls v lo p hi h k (right (holds l lo v) (allHold ls lo v) e) (right (holds l hi v) (allHold ls hi v) f))
 
-pub convex : (s : Sheet) (b : Balance) (r v lo p hi : ℕ) → lo ≤ p → p ≤ hi → keepsAt s b r lo v ≡ true → keepsAt s b r hi v ≡ true → keepsAt s b r p v ≡ true
-convex s b r v lo p hi h k e f =
-    keeps-planes s b r p v
-    ∙ planes-between (planesOf s b r) v lo p hi h k (sym (keeps-planes s b r lo v) ∙ e) (sym (keeps-planes s b r hi v) ∙ f)
+-- ---- limits that half-planes say
+
+module _ (q : ℕ → ℕ → Bool) (ls : List HalfPlane) (says : Says ls q) where
+  -- none of the water and all of it decide
+  pub both-ends : (p w : ℕ) → upTo (q p) w ≡ (q p 0 && q p w)
+  both-ends p w =
+      ap (λ (t : ℕ → Bool). upTo t w) (fun-ext (λ v. says p v)) ∙ both-planes ls p w ∙ rw (says p 0, says p w)
+
+  pub convex : (v lo p hi : ℕ) → lo ≤ p → p ≤ hi → q lo v ≡ true → q hi v ≡ true → q p v ≡ true
+  convex v lo p hi h k e f =
+      says p v ∙ planes-between ls v lo p hi h k (sym (says lo v) ∙ e) (sym (says hi v) ∙ f)

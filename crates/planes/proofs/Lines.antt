@@ -17,7 +17,7 @@ use Rattle.paper.specs.Units.{halfGrams}
 use Rattle.paper.specs.Record.{Balance, with}
 use Rattle.paper.specs.Rows.{laden, atMost, lines, all, keepsAt}
 use Rattle.planes.specs.declared.HalfPlane.{HalfPlane}
-use Rattle.planes.specs.Plane.{holds, allHold}
+use Rattle.planes.specs.Plane.{holds, allHold, Says}
 
 -- the integers that the lines are made of, each by two sides
 pub record Parts : Type 0 where
@@ -157,7 +157,7 @@ module _ (s : Sheet) (b : Balance) (r p v : ℕ) where
       same (part-is s b (partsOf s b) (parts-of s b) r p v)
       (is-add (is-int (b .nonLifting)) (is-mul (is-nat 2) (is-add (is-nat p) (is-nat r)))) (omega arith)
 
--- ---- the five lines
+-- ---- the lines
 
 at-most : {z : ℤ} {u d : ℕ} → Is z u d → (most : ℕ) → atMost most z ≡ leb u (2 * most + d)
 unfolding atMost
@@ -177,17 +177,19 @@ module _ (s : Sheet) (b : Balance) (q : Parts) (o : PartsOf s b q) (r p v : ℕ)
   aft-line =
       leZ-test (is-mul (is-nat 20) (moment-is s b q o r p v)) (is-mul (is-add (is-mul (is-nat 19) (o .aft)) (o .fwd)) (total-is s b q o r p v)) (aftLow q r p v) (aftHigh q r p v) (omega arith)
 
--- five tests that are the five lines' are what it is to keep the limits
-pub keeps-tests : (s : Sheet) (b : Balance) (q : Parts) → PartsOf s b q → (r p v : ℕ) (dry wet nlp fwd aft : Bool)
+-- six tests that are the six lines' are what it is to keep the limits
+pub keeps-tests : (s : Sheet) (b : Balance) (q : Parts) → PartsOf s b q → (r p v : ℕ) (occupied dry wet nlp fwd aft : Bool)
+    → leb 1 p ≡ occupied
     → leb (halves q r p 0) (2 * s .dry + q .total .down) ≡ dry
     → leb (halves q r p v) (2 * s .wet + q .total .down) ≡ wet
     → (eqb (s .nlp) 0 || leb (q .nonLifting .up + 2 * (p + r)) (2 * s .nlp + q .nonLifting .down)) ≡ nlp
     → leb (fwdLow q r p v) (fwdHigh q r p v) ≡ fwd
     → leb (aftLow q r p v) (aftHigh q r p v) ≡ aft
-    → keepsAt s b r p v ≡ (dry && (wet && (nlp && (fwd && (aft && true)))))
+    → keepsAt s b r p v ≡ (occupied && (dry && (wet && (nlp && (fwd && (aft && true))))))
 unfolding keepsAt lines all
-keeps-tests s b q o r p v dry wet nlp fwd aft d w n f a =
+keeps-tests s b q o r p v occupied dry wet nlp fwd aft o₁ d w n f a =
     rw (
+      o₁,
       weight-line s b q o r p 0 (s .dry) ∙ d,
       weight-line s b q o r p v (s .wet) ∙ w,
       part-line s b q o r p v (s .nlp),
@@ -230,6 +232,10 @@ aftPlane q r =
 
 -- ---- the half-planes of loads in grams
 
+-- somebody is in the front seat: the load is one gram or more, whatever the water
+abbrev pub occupiedPlane : HalfPlane
+occupiedPlane = record { alpha0 = 0; alpha1 = 0; beta = 1; gamma0 = 1; gamma1 = 0; delta = 0 }
+
 -- each gram counts as two halves
 abbrev pub inGrams : HalfPlane → HalfPlane
 inGrams l =
@@ -246,6 +252,7 @@ inGrams l =
 unfoldable pub planesOf : Sheet → Balance → ℕ → List HalfPlane
 planesOf s b r =
     let q = partsOf s b in
+    occupiedPlane ∷
     inGrams (weightPlane 0 (q .total .up + 2 * r) (2 * s .dry + q .total .down)) ∷
     inGrams (weightPlane 1 (q .total .up + 2 * r) (2 * s .wet + q .total .down)) ∷
     cond (eqb (s .nlp) 0) noLimit (inGrams (weightPlane 0 (q .nonLifting .up + 2 * r) (2 * s .nlp + q .nonLifting .down))) ∷
@@ -262,8 +269,8 @@ unfolding holds
 unless true u l p v e = sym (le-leb (0 + v * 0 + 0 * p) (0 + v * 0 + 0 * p) (omega arith))
 unless false u l p v e = e
 
--- every sheet and every balance: to keep the limits is to keep five half-planes
-pub keeps-planes : (s : Sheet) (b : Balance) (r p v : ℕ) → keepsAt s b r p v ≡ allHold (planesOf s b r) p v
+-- every sheet and every balance: to keep the limits is to keep six half-planes
+pub keeps-planes : (s : Sheet) (b : Balance) (r : ℕ) → Says (planesOf s b r) (keepsAt s b r)
 unfolding allHold planesOf
 keeps-planes s b r p v =
     let q = partsOf s b in
@@ -272,7 +279,8 @@ keeps-planes s b r p v =
     let dry = inGrams (weightPlane 0 (t .up + 2 * r) (2 * s .dry + t .down)) in
     let wet = inGrams (weightPlane 1 (t .up + 2 * r) (2 * s .wet + t .down)) in
     let nlp = inGrams (weightPlane 0 (n .up + 2 * r) (2 * s .nlp + n .down)) in
-    keeps-tests s b q (parts-of s b) r p v _ _ _ _ _
+    keeps-tests s b q (parts-of s b) r p v _ _ _ _ _ _
+    (holds-test occupiedPlane p v 1 p (omega arith) (omega arith))
     (holds-test dry p v (halves q r p 0) (2 * s .dry + t .down) (omega arith) (omega arith))
     (holds-test wet p v (halves q r p v) (2 * s .wet + t .down) (omega arith) (omega arith))
     (unless (eqb (s .nlp) 0) _ nlp p v (holds-test nlp p v (n .up + 2 * (p + r)) (2 * s .nlp + n .down) (omega arith) (omega arith)))

@@ -1,9 +1,11 @@
--- What a row prints: the steps that keep every limit are exactly the steps in its range. Both ends are such steps, each limit
--- grows evenly with the front load, so what lies between them keeps it too. Assumes nothing.
+-- What a row prints: the steps that keep every limit are exactly the steps in its range. Both ends are such steps, and limits that
+-- half-planes say grow evenly with the front load, so what lies between them keeps them too. One argument for all limits; those of
+-- a sheet and a balance are `limits-of`. Assumes nothing.
 use mathlib.Core.Path.{_≡_, refl, sym, ap, _∙_}
 use mathlib.Core.Bool.{Bool, true, false, not, _&&_, true≢false}
 use mathlib.Core.List.{List, [], _∷_}
 use Prim.Native.Nat.{ℕ, _%_, _≤_}
+use native.Mathlib.Omega.{arith}
 use lib.Dec.{leb, eqb}
 use borrow.Author.Tests.{leb-true}
 use Rattle.laws.specs.Tests.{same, both, left, right, right-fails, in-span, span-lo, span-hi, and-by, and-not, clash}
@@ -11,57 +13,95 @@ use Rattle.paper.specs.declared.Sheet.{Sheet}
 use Rattle.paper.specs.declared.Row.{Row}
 use Rattle.paper.specs.declared.Row.the-variants.{Range, Blank}
 use Rattle.paper.specs.Record.{Balance}
-use Rattle.paper.specs.Rows.{lines, all, anyFails, keepsAt, breaksAt, upTo, isStep, keeps, rowOf, row, inRange, misses, isBlank}
+use Rattle.paper.specs.Rows.{lines, all, anyFails, keepsAt, breaksAt, upTo, isStep, keeps, rowOf, row, inRange, isBlank}
+use Rattle.planes.specs.declared.HalfPlane.{HalfPlane}
+use Rattle.planes.specs.Plane.{Says}
 use Rattle.planes.proofs.Searches.{up-to, up-to-at, Outcome, a-range, a-blank, outcome, found, row-of-none}
+use Rattle.planes.proofs.Lines.{planesOf, keeps-planes}
 use Rattle.planes.proofs.Convex.{convex}
 
--- ---- a step that keeps every limit
+-- ---- any limits
+
+-- `keeps` tests the front loads of a row: those that are steps, which go up to `most`, and keep some limits with every part of
+-- the water w aboard. `at` tests a load and a part of the water, and there are half-planes that say what it says
+pub record Limits (step : ℕ → Bool) (most : ℕ) (at : ℕ → ℕ → Bool) (w : ℕ) (keeps : ℕ → Bool) : Type 0 where
+  pub planes : List HalfPlane
+  pub says : Says planes at
+  pub bound : (p : ℕ) → step p ≡ true → p ≤ most
+  pub is : (p : ℕ) → keeps p ≡ (step p && upTo (at p) w)
+
+module _ {step : ℕ → Bool} {most : ℕ} {at : ℕ → ℕ → Bool} {w : ℕ} {keeps : ℕ → Bool} (l : Limits step most at w keeps) where
+  pub is-step : (p : ℕ) → keeps p ≡ true → step p ≡ true
+  is-step p k = left (step p) (upTo (at p) w) (sym (l .is p) ∙ k)
+
+  keeps-at : (p : ℕ) → keeps p ≡ true → (v : ℕ) → v ≤ w → at p v ≡ true
+  keeps-at p k = up-to-at (at p) w (right (step p) (upTo (at p) w) (sym (l .is p) ∙ k))
+
+  -- one in the range of a row whose ends keep every limit
+  between-ends : (p lo hi : ℕ) → keeps lo ≡ true → keeps hi ≡ true → step p ≡ true → inRange p (Range lo hi) ≡ true → keeps p ≡ true
+  between-ends p lo hi kl kh s e =
+      let a = span-lo lo hi p e in
+      let b = span-hi lo hi p e in
+      l .is p
+      ∙ both (step p) (upTo (at p) w) s
+      (up-to (at p) w (λ v h. convex at (l .planes) (l .says) v lo p hi a b (keeps-at lo kl v h) (keeps-at hi kh v h)))
+
+  by-outcome : (p : ℕ) → Outcome keeps most → keeps p ≡ (step p && inRange p (rowOf keeps most))
+  by-outcome p (a-range lo hi e ends) =
+      rw e (same (keeps p) (step p && inRange p (Range lo hi))
+      (λ k.
+      let s = is-step p k in
+      let m = ends .4 p (l .bound p s) k in
+      both (step p) (inRange p (Range lo hi)) s (in-span lo hi p (m .0) (m .1)))
+      (λ k. between-ends p lo hi (ends .0) (ends .1) (left (step p) (inRange p (Range lo hi)) k) (right (step p) (inRange p (Range lo hi)) k)))
+  by-outcome p (a-blank e none) =
+      rw e (same (keeps p) (step p && false)
+      (λ k. absurd (clash (keeps p) k (none p (l .bound p (is-step p k)))))
+      (λ k. absurd (true≢false (sym k ∙ right-fails (step p) false refl))))
+
+  -- the steps that keep every limit are exactly the steps in the range that the row prints
+  pub kept-steps : (p : ℕ) → keeps p ≡ (step p && inRange p (rowOf keeps most))
+  kept-steps p = by-outcome p (outcome keeps most)
+
+  -- a step in a printed range keeps the limits with each part of the water aboard
+  pub each-kept : (p v : ℕ) → step p ≡ true → inRange p (rowOf keeps most) ≡ true → v ≤ w → at p v ≡ true
+  each-kept p v s range h = keeps-at p (kept-steps p ∙ both (step p) (inRange p (rowOf keeps most)) s range) v h
+
+  -- no row misses a step that keeps every limit
+  pub none-missed : (p : ℕ) → (keeps p && not (inRange p (rowOf keeps most))) ≡ false
+  none-missed p =
+      ap (λ (k : Bool). k && not (inRange p (rowOf keeps most))) (kept-steps p) ∙ and-not (step p) (inRange p (rowOf keeps most))
+
+  -- a row is blank where no front load keeps every limit, and only there
+  blank-keeps : (x : Row) (p : ℕ) → isBlank x ≡ true → inRange p x ≡ false
+  blank-keeps (Range lo hi) p e = absurd (true≢false (sym e))
+  blank-keeps Blank p e = refl
+
+  pub blank-none : isBlank (rowOf keeps most) ≡ true → (p : ℕ) → keeps p ≡ false
+  blank-none e p = kept-steps p ∙ right-fails (step p) (inRange p (rowOf keeps most)) (blank-keeps (rowOf keeps most) p e)
+
+  pub none-blank : ((p : ℕ) → keeps p ≡ false) → isBlank (rowOf keeps most) ≡ true
+  none-blank h = ap isBlank (row-of-none keeps most (λ p k. h p))
+
+  -- both ends of a printed range keep the limits with none of the water aboard
+  pub ends-kept : (lo hi : ℕ) → rowOf keeps most ≡ Range lo hi → (at lo 0 ≡ true) × (at hi 0 ≡ true)
+  ends-kept lo hi e = let h = found keeps most lo hi e in (keeps-at lo (h .0) 0 (omega arith), keeps-at hi (h .1) 0 (omega arith))
+
+-- ---- those of a sheet and a balance
 
 pub keeps-is : (s : Sheet) (b : Balance) (r w p : ℕ) → keeps s b r w p ≡ (isStep s p && upTo (keepsAt s b r p) w)
 unfolding keeps
 keeps-is s b r w p = and-by (isStep s p) (upTo (keepsAt s b r p) w)
 
-module _ (s : Sheet) (b : Balance) (r w p : ℕ) (k : keeps s b r w p ≡ true) where
-  pub is-step : isStep s p ≡ true
-  is-step = left (isStep s p) (upTo (keepsAt s b r p) w) (sym (keeps-is s b r w p) ∙ k)
+step-most : (s : Sheet) (p : ℕ) → isStep s p ≡ true → p ≤ s .front .most
+unfolding isStep
+step-most s p e = leb-true p (s .front .most) (right (eqb (p % s .front .step) 0 && leb (s .least) p) (leb p (s .front .most)) e)
 
-  pub keeps-at : (v : ℕ) → v ≤ w → keepsAt s b r p v ≡ true
-  keeps-at = up-to-at (keepsAt s b r p) w (right (isStep s p) (upTo (keepsAt s b r p) w) (sym (keeps-is s b r w p) ∙ k))
+pub limits-of : (s : Sheet) (b : Balance) (r w : ℕ) → Limits (isStep s) (s .front .most) (keepsAt s b r) w (keeps s b r w)
+limits-of s b r w =
+    record { planes = planesOf s b r; says = keeps-planes s b r; bound = step-most s; is = keeps-is s b r w }
 
-  step-most : p ≤ s .front .most
-  unfolding isStep
-  step-most = leb-true p (s .front .most) (right (eqb (p % s .front .step) 0 && leb (s .least) p) (leb p (s .front .most)) is-step)
-
--- ---- the range
-
-module _ (s : Sheet) (b : Balance) (r w p : ℕ) where
-  -- one in the range of a row whose ends keep every limit
-  between-ends : (lo hi : ℕ) → keeps s b r w lo ≡ true → keeps s b r w hi ≡ true → isStep s p ≡ true → inRange p (Range lo hi) ≡ true → keeps s b r w p ≡ true
-  between-ends lo hi kl kh step e =
-      let l = span-lo lo hi p e in
-      let h = span-hi lo hi p e in
-      keeps-is s b r w p ∙ both (isStep s p) (upTo (keepsAt s b r p) w) step (up-to (keepsAt s b r p) w (λ v a. convex s b r v lo p hi l h (keeps-at s b r w lo kl v a) (keeps-at s b r w hi kh v a)))
-
-  by-outcome : Outcome (keeps s b r w) (s .front .most) → keeps s b r w p ≡ (isStep s p && inRange p (rowOf (keeps s b r w) (s .front .most)))
-  by-outcome (a-range lo hi e ends) =
-      rw e (same (keeps s b r w p) (isStep s p && inRange p (Range lo hi))
-      (λ k.
-      let m = ends .4 p (step-most s b r w p k) k in
-      both (isStep s p) (inRange p (Range lo hi)) (is-step s b r w p k) (in-span lo hi p (m .0) (m .1)))
-      (λ k. between-ends lo hi (ends .0) (ends .1) (left (isStep s p) (inRange p (Range lo hi)) k) (right (isStep s p) (inRange p (Range lo hi)) k)))
-  by-outcome (a-blank e none) =
-      rw e (same (keeps s b r w p) (isStep s p && false)
-      (λ k. absurd (clash (keeps s b r w p) k (none p (step-most s b r w p k))))
-      (λ k. absurd (true≢false (sym k ∙ right-fails (isStep s p) false refl))))
-
--- the steps that keep every limit are exactly the steps in the range that the row prints
-pub kept-steps : (s : Sheet) (b : Balance) (r w p : ℕ) → keeps s b r w p ≡ (isStep s p && inRange p (row s b r w))
-unfolding row
-kept-steps s b r w p = by-outcome s b r w p (outcome (keeps s b r w) (s .front .most))
-
--- ---- in demand 3's words
-
--- a line fails where not all hold
+-- what keeps them breaks none: no line fails where all hold
 fails : (xs : List Bool) → all xs ≡ true → anyFails xs ≡ false
 unfolding all anyFails
 fails [] e = refl
@@ -72,31 +112,16 @@ pub breaks-none : (s : Sheet) (b : Balance) (r p v : ℕ) → keepsAt s b r p v 
 unfolding keepsAt breaksAt
 breaks-none s b r p v e = fails (lines s b r p v) e
 
--- no step in a printed range breaks a limit with a part of the water aboard
-pub none-breaks : (s : Sheet) (b : Balance) (r w p v : ℕ) → isStep s p ≡ true → inRange p (row s b r w) ≡ true → v ≤ w → breaksAt s b r p v ≡ false
-none-breaks s b r w p v step range h =
-    breaks-none s b r p v (keeps-at s b r w p (kept-steps s b r w p ∙ both (isStep s p) (inRange p (row s b r w)) step range) v h)
-
--- no row misses a step that keeps every limit
-pub none-missed : (s : Sheet) (b : Balance) (r w p : ℕ) → misses s b r w (row s b r w) p ≡ false
-unfolding misses
-none-missed s b r w p =
-    ap (λ (k : Bool). k && not (inRange p (row s b r w))) (kept-steps s b r w p) ∙ and-not (isStep s p) (inRange p (row s b r w))
-
--- a row is blank where no front load keeps every limit, and only there
-blank-keeps : (x : Row) (p : ℕ) → isBlank x ≡ true → inRange p x ≡ false
-blank-keeps (Range lo hi) p e = absurd (true≢false (sym e))
-blank-keeps Blank p e = refl
-
-pub blank-none : (s : Sheet) (b : Balance) (r w : ℕ) → isBlank (row s b r w) ≡ true → (p : ℕ) → keeps s b r w p ≡ false
-blank-none s b r w e p =
-    kept-steps s b r w p ∙ right-fails (isStep s p) (inRange p (row s b r w)) (blank-keeps (row s b r w) p e)
-
-pub none-blank : (s : Sheet) (b : Balance) (r w : ℕ) → ((p : ℕ) → keeps s b r w p ≡ false) → isBlank (row s b r w) ≡ true
-unfolding row
-none-blank s b r w h = ap isBlank (row-of-none (keeps s b r w) (s .front .most) (λ p k. h p))
-
 -- a printed range ends at the greatest front load at most
 pub range-most : (s : Sheet) (b : Balance) (r w lo hi : ℕ) → row s b r w ≡ Range lo hi → (lo ≤ s .front .most) × (hi ≤ s .front .most)
 unfolding row
 range-most s b r w lo hi e = let h = found (keeps s b r w) (s .front .most) lo hi e in (h .2, h .3)
+
+-- and does not begin at 0: nobody in the seat breaks a limit, whatever the water
+pub empty-breaks : (s : Sheet) (b : Balance) (r v : ℕ) → breaksAt s b r 0 v ≡ true
+unfolding breaksAt anyFails lines
+empty-breaks s b r v = refl
+
+pub range-occupied : (s : Sheet) (b : Balance) (r w lo hi : ℕ) → row s b r w ≡ Range lo hi → 1 ≤ lo
+unfolding row keepsAt all lines
+range-occupied s b r w lo hi e = leb-true 1 lo (left (leb 1 lo) _ (ends-kept (limits-of s b r w) lo hi e .0))

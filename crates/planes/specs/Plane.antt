@@ -1,4 +1,6 @@
--- Half-planes of front load and water: what it is to keep one, some of them, and which numbers are small enough to reckon with.
+-- Half-planes of front load and water: what it is to keep one, some of them, which of them say what a row's limits say, and which
+-- numbers are small enough to reckon with.
+use mathlib.Core.Path.{_≡_}
 use mathlib.Core.Bool.{Bool, true, _&&_}
 use mathlib.Core.List.{List, [], _∷_}
 use Prim.Native.Nat.{ℕ, _+_, _*_, _%_, _^_, _<_}
@@ -15,6 +17,10 @@ holds l p v =
 unfoldable pub allHold : List HalfPlane → ℕ → ℕ → Bool
 allHold [] p v = true
 allHold (l ∷ ls) p v = holds l p v && allHold ls p v
+
+-- some half-planes say what a test of front load and water says, as that of a row's limits (`keepsAt`)
+abbrev pub Says : List HalfPlane → (ℕ → ℕ → Bool) → Type 0
+Says ls q = (p v : ℕ) → q p v ≡ allHold ls p v
 
 -- a multiple of f from least to most that keeps each of some half-planes with every part of the water w aboard
 unfoldable pub kept : ℕ → ℕ → ℕ → ℕ → List HalfPlane → ℕ → Bool

@@ -93,14 +93,15 @@ pub fn find_row(f: u64, least: u64, most: u64, w: u64, limits: [HalfPlane; LINES
     requires { ⌜ (0 < f) × (w < 2 ^ 30) × Each Small limits ⌝ }
     ensures { λ r. ⌜ r ≡ rowOf (kept f least most w limits) most ⌝ }
 {
-    let mut s = Span {
+    let s = Span {
         lo: least,
         hi: most,
     };
-    let mut i = 0;
-    while i < LINES {
-        s = narrow_wet(s, limits[i], w);
-        i += 1;
-    }
+    let s = narrow_wet(s, limits[0], w);
+    let s = narrow_wet(s, limits[1], w);
+    let s = narrow_wet(s, limits[2], w);
+    let s = narrow_wet(s, limits[3], w);
+    let s = narrow_wet(s, limits[4], w);
+    let s = narrow_wet(s, limits[5], w);
     round(s, f)
 }

@@ -1,12 +1,13 @@
--- What the table of cases does not say: a mistake that the paper warns of, the files of G, of K and of a paired weighing in each
--- version, and a journal. Each is computed from the definitions.
+-- What the table of cases does not say: a mistake that the paper warns of, rows for nobody, the files of G, of K and of a paired
+-- weighing in each version, and a journal. Each is computed from the definitions.
 use mathlib.Core.Path.{_≡_, refl}
 use mathlib.Core.Bool.{true, _&&_}
 use mathlib.Core.List.{List, [], _∷_, _++_}
 use mathlib.Core.Option.{Option, none, some, orElse, bind}
 use Prim.Native.Nat.{ℕ}
 use lib.IntN.{pos}
-use lib.ListN.{take}
+use lib.ListN.{take, replicate}
+use Rattle.laws.specs.Lists.{Each}
 use Rattle.paper.specs.declared.Sheet.{Sheet}
 use Rattle.paper.specs.declared.Row.{Row}
 use Rattle.paper.specs.declared.Row.the-variants.{Range}
@@ -20,7 +21,8 @@ use Rattle.paper.specs.File.{bytesOf, numberOf, fieldBytes, fieldValue, layoutO
 use Rattle.paper.specs.Refusals.{firstNumber, full, badReading, badDistance, badPart, weighingFaults, weighingNumber, badArms, badRanges, badRows, sheetFaults, sheetNumber, isNone, changeFaults, changeNumber}
 use Rattle.paper.specs.Refusals.{undoNumber, entryNumber, acceptedAfter, accepted, fileOf, readingNumber}
 use Rattle.paper.specs.Journal.{Call, weigh, pair, install, change, undo, read, callNumber, withoutLast, acceptedCall, afterBy, journalBy, numbersBy, journal, numbers}
-use Rattle.worked.specs.Plates.{minus, blanik, blanikSheet, astir, astirSheet, G, pairOf, astirPair}
+use Rattle.worked.specs.Plates.{minus, blanik, blanikSheet, astir, astirSheet, G, pairOf, astirPair, spareSheet, spare}
+use Rattle.worked.specs.Table.{Case, places, printed, Says, eachPasses, each-told}
 
 -- ---- judging water with the tank full only: G's second row would begin at 64 kg, and that step breaks a limit with none
 
@@ -35,6 +37,28 @@ full-only = refl
 broken-empty : breaksAt (astirSheet (minus 47500)) (weighed (alike astir)) 0 64000 0 ≡ true
 unfolding breaksAt anyFails lines laden with atMost halfGrams weighed totalOf momentOf
 broken-empty = refl
+
+-- ---- nobody in the front seat: 0 is a step, but the rows begin at the next one. Where rear load or water takes all that is to
+-- spare 0 alone would keep the limits; that row is blank, and counted
+
+nobody-is-a-step : isStep spareSheet 0 ≡ true
+unfolding isStep
+nobody-is-a-step = refl
+
+abbrev nobody : List Case
+nobody =
+    places spare (replicate 216 7) (record { number = 0; bytes = 216; rows = 6; blank = 4 }) (printed (
+    "0000.000 0000.000 0000.025 0000.050" ∷
+    "0000.000 0000.050 -------- --------" ∷
+    "0000.025 0000.000 0000.025 0000.025" ∷
+    "0000.025 0000.050 -------- --------" ∷
+    "0000.050 0000.000 -------- --------" ∷
+    "0000.050 0000.050 -------- --------" ∷ []
+    )) ∷ []
+
+rows-for-nobody : Each Says nobody
+unfolding eachPasses
+rows-for-nobody = each-told nobody refl
 
 -- ---- a pair of equal readings is the plain weighing
 

@@ -114,3 +114,21 @@ grams =
       rear = station (pos 3000) 3 3;
       water = station (pos 1000) 20 7;
     }) ∷ []
+
+-- a glider of 200 g that balances anywhere, with 50 g to spare for both seats and the water, and a least front load of 0
+abbrev pub spareSheet : Sheet
+spareSheet =
+    record {
+      fwd = minus 1000;
+      aft = pos 1000;
+      dry = 250;
+      wet = 250;
+      nlp = 0;
+      front = station (pos 0) 100 25;
+      least = 0;
+      rear = station (pos 0) 50 25;
+      water = station (pos 0) 50 50;
+    }
+
+abbrev pub spare : List Entry
+spare = entry.Weighing (weighing 1 200 0 (pos 0) 1) ∷ entry.Sheet spareSheet ∷ []

@@ -22,8 +22,9 @@ use Rattle.paper.specs.Rows.{laden, atMost, lines, all, keepsAt, isStep, keeps,
 use Rattle.paper.specs.Placard.{line, text, textLength, blankOf, blankCount}
 use Rattle.paper.specs.Answers.{over, placardGiven, placardRefused, placardBy}
 use Rattle.planes.proofs.Searches.{Outcome, a-range, a-blank, outcome, row-of-ends, row-of-none}
-use Rattle.planes.proofs.Rows.{keeps-is, is-step}
+use Rattle.planes.proofs.Lines.{planesOf, keeps-planes}
 use Rattle.planes.proofs.Convex.{both-ends}
+use Rattle.planes.proofs.Rows.{keeps-is, is-step, limits-of}
 
 -- ---- multiples of f only
 
@@ -76,14 +77,16 @@ rowBy s b r w =
 
 keeps-both : (s : Sheet) (b : Balance) (r w p : ℕ) → keeps s b r w p ≡ keepsBoth s b r w p
 unfolding keepsBoth
-keeps-both s b r w p = keeps-is s b r w p ∙ ap (λ (x : Bool). isStep s p && x) (both-ends s b r p w)
+keeps-both s b r w p =
+    keeps-is s b r w p
+    ∙ ap (λ (x : Bool). isStep s p && x) (both-ends (keepsAt s b r) (planesOf s b r) (keeps-planes s b r) p w)
 
 step-multiple : (s : Sheet) (b : Balance) (r w p : ℕ) → keeps s b r w p ≡ true → p % s .front .step ≡ 0
 unfolding isStep
 step-multiple s b r w p e =
     let t = eqb (p % s .front .step) 0 in
     eqb-true (p % s .front .step) 0
-    (left t (leb (s .least) p) (left (t && leb (s .least) p) (leb p (s .front .most)) (is-step s b r w p e)))
+    (left t (leb (s .least) p) (left (t && leb (s .least) p) (leb p (s .front .most)) (is-step (limits-of s b r w) p e)))
 
 pub row-is : (s : Sheet) (b : Balance) → row s b ≡ rowBy s b
 unfolding row rowBy

@@ -29,6 +29,7 @@ use Rattle.paper.specs.File.{bytesOf, fieldBytes, layoutOf, fieldsBytes, entryB
 use Rattle.paper.specs.Refusals.{firstNumber, full, isTotal, isNonLifting, badReading, badDistance, badPart, weighingFaults, weighingNumber, badArms, badRanges, badRows, sheetFaults, sheetNumber, isNone, afterwards, isChange, badChange, changeFaults, changeNumber}
 use Rattle.paper.specs.Refusals.{placardTooLong, placardNumber, entryNumber, acceptedAfter, accepted}
 use Rattle.paper.specs.Answers.{over, placardRefused, placardAnswer}
+use Rattle.planes.proofs.Lines.{planesOf, keeps-planes}
 use Rattle.planes.proofs.Convex.{convex}
 use Rattle.worked.specs.Plates.{minus, weighing, blanik, G, H, I, J, gramMore, equals, quarters, grams}
 use Rattle.worked.specs.Equal.{eqRow, same-row, Line, eqLine, same-line, eqAnswer, same-answer}
@@ -229,7 +230,8 @@ has-told {P} es t f e = by (sheetOf es) (balanceOf es) refl refl e
 -- where one load keeps the limits and a smaller one does not, none before that does
 begins-told : (s : Sheet) (b : Balance) (lo hi : ℕ) → leb lo hi ≡ true → keepsAt s b 0 lo 0 ≡ false → keepsAt s b 0 hi 0 ≡ true → (p : ℕ) → p ≤ lo → keepsAt s b 0 p 0 ≡ false
 begins-told s b lo hi h e k p m =
-    isnt (keepsAt s b 0 p 0) (λ t. true≢false (sym (convex s b 0 0 p lo hi m (leb-true lo hi h) t k) ∙ e))
+    let between = convex (keepsAt s b 0) (planesOf s b 0) (keeps-planes s b 0) 0 p lo hi m (leb-true lo hi h) in
+    isnt (keepsAt s b 0 p 0) (λ t. true≢false (sym (between t k) ∙ e))
 
 told : (c : Case) → gives c ≡ true → Gives c
 unfolding gives placardAnswer
@@ -263,12 +265,12 @@ told (places es buffer a left) e =
 
 -- ---- the theorem
 
-eachPasses : List Case → Bool
+unfoldable pub eachPasses : List Case → Bool
 unfolding accepts gives
 eachPasses [] = true
 eachPasses (c ∷ cs) = accepts (entriesOf c) && (gives c && eachPasses cs)
 
-each-told : (cs : List Case) → eachPasses cs ≡ true → Each Says cs
+pub each-told : (cs : List Case) → eachPasses cs ≡ true → Each Says cs
 unfolding eachPasses accepts
 each-told [] e = tt
 each-told (c ∷ cs) e =

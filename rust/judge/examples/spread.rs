@@ -4,7 +4,6 @@
 //! `cargo run --release --example spread [cases] [seed]`
 
 use judge::generate::{case, Case};
-use judge::paper::Entry;
 use judge::run::{By, Direct, Paper, Trial};
 use std::collections::BTreeMap;
 
@@ -22,14 +21,11 @@ struct Spread {
     heavy: u64,
 }
 
-/// The first and the last step of the sheet in force, as the placard prints them.
+/// The first step above 0 and the last of the sheet in force, as the placard
+/// prints them.
 fn whole_range(paper: &Paper) -> Option<(String, String)> {
-    let entries = &paper.journal.as_ref()?.entries;
-    let sheet = entries.iter().rev().find_map(|entry| match entry {
-        Entry::Sheet(sheet) => Some(*sheet),
-        _ => None,
-    })?;
-    let first = sheet.front_least.div_ceil(sheet.front_step) * sheet.front_step;
+    let sheet = paper.journal.as_ref()?.sheet()?;
+    let first = sheet.front_least.div_ceil(sheet.front_step).max(1) * sheet.front_step;
     let last = sheet.front_most / sheet.front_step * sheet.front_step;
     let print = |grams: u64| format!("{:04}.{:03}", grams / 1000, grams % 1000);
     Some((print(first), print(last)))

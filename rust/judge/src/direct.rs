@@ -521,7 +521,8 @@ pub fn centre(buffer: &[u8]) -> Result<Centre, u64> {
 /// water. So a row takes three divisions: the weights, S ≥ FWD·T and the safe
 /// aft limit.
 struct Limits {
-    /// Front steps between the least and the greatest front load.
+    /// Front steps between the least and the greatest front load; 0 is none of
+    /// them, since somebody must be in the seat.
     steps: Steps,
     /// The front step in grams.
     step: i64,
@@ -588,7 +589,7 @@ impl Limits {
         }
         Limits {
             steps: Steps {
-                low: sheet.front_least.div_ceil(sheet.front_step) as i64,
+                low: sheet.front_least.div_ceil(sheet.front_step).max(1) as i64,
                 high: (sheet.front_most / sheet.front_step) as i64,
             },
             step: sheet.front_step as i64,

@@ -416,8 +416,8 @@ fn spread_rows(random: &mut Random, s: &mut Sheet) {
     s.capacity = (waters - 1) * s.water_step + random.below(s.water_step);
 }
 
-/// Odd front loads and tight weights: no step at all, least 0, DRY below G, the
-/// non-lifting limit tight.
+/// Odd front loads and tight weights: no step at all, least 0, no step but 0 or
+/// but 0 and the greatest, DRY below G, the non-lifting limit tight.
 fn odd_front(random: &mut Random, glider: &mut Glider) {
     let (g, n) = (glider.grams() as u64, glider.n as u64);
     let s = &mut glider.sheet;
@@ -427,7 +427,11 @@ fn odd_front(random: &mut Random, glider: &mut Glider) {
             s.front_least = random.amount(1, s.front_most);
             s.front_step = random.amount(s.front_most, LOAD);
         }
-        1 | 2 => s.front_least = 0,
+        1 => s.front_least = 0,
+        2 => {
+            s.front_least = 0;
+            s.front_most = random.pick(&[0, s.front_step - 1, s.front_step]);
+        }
         3 => s.front_least = s.front_most,
         4 => s.dry = random.amount(1, g),
         5 => s.nlp = 0,

@@ -1,4 +1,4 @@
-//! Paper 01 by plain loops, and card 1 of paper 02 with it.
+//! Paper 01 by plain loops, and cards 1 and 2 of paper 02 with it.
 //!
 //! Every rule stands here as the paper words it, under the paper's heading, and
 //! every number is an `i128`, so that no argument can overflow a test. Nothing
@@ -8,6 +8,9 @@
 //! moments are sums over both and so in half grams, and "a plain weighing counts
 //! as a pair of equals". What is given stays in grams, and every other weight is
 //! doubled where it meets such a sum.
+//!
+//! Card 2, "nobody in the seat": a front load of 0 "no longer keeps the limits"
+//! with any water aboard, "even where the sheet's least load is 0".
 //!
 //! Readings of the papers, where their words leave room:
 //!
@@ -21,7 +24,8 @@
 //!   rows are not counted where a step is out of range; the number is the same.
 //! - A flag other than 0 and 1 is out of range: number 6.
 //! - Steps are multiples of the front step, counted from 0 and not from the
-//!   least front load. "A front load of 0 counts as a load" where least is 0.
+//!   least front load. 0 is one where least is 0, and never a load that keeps
+//!   the limits.
 //! - A file is a whole one: with a byte over or missing it is none.
 //! - Reading back does not ask whether the record is full: it replaces it.
 //! - Of a pair all conditions of one number count together too: a fault of the
@@ -468,7 +472,7 @@ impl Journal {
     }
 
     /// The sheet in force: the last one in the list.
-    pub(crate) fn sheet(&self) -> Option<Sheet> {
+    pub fn sheet(&self) -> Option<Sheet> {
         let mut sheet = None;
         for entry in &self.entries {
             if let Entry::Sheet(s) = entry {
@@ -494,7 +498,8 @@ impl Journal {
 // ---- A row ----
 
 /// The lines of "A row" for one front load p, rear load r and water v aboard:
-/// "every other weight and weight limit is doubled" with G, M and n.
+/// "every other weight and weight limit is doubled" with G, M and n. With
+/// nobody in the seat the limits are not kept.
 fn keeps(sums: &Sums, sheet: &Sheet, p: i128, r: i128, v: i128) -> bool {
     let Sums { g, m, n } = *sums;
     let (p, r, v) = (HALVES * p, HALVES * r, HALVES * v);
@@ -507,7 +512,8 @@ fn keeps(sums: &Sums, sheet: &Sheet, p: i128, r: i128, v: i128) -> bool {
     let water_arm = i128::from(sheet.water_arm);
     let t = g + p + r + v;
     let s = m + p * front_arm + r * rear_arm + v * water_arm;
-    g + p + r <= dry
+    p != 0
+        && g + p + r <= dry
         && g + p + r + v <= wet
         && (nlp == 0 || n + p + r <= nlp)
         && s >= fwd * t

@@ -1,5 +1,5 @@
 //! The paper's plates A to K, in half grams, the figures of document 000 that it
-//! quotes, what it says to be run, and what card 1 of paper 02 adds.
+//! quotes, what it says to be run, and what cards 1 and 2 of paper 02 add.
 
 mod common;
 
@@ -81,6 +81,25 @@ const BLANIK: Sheet = Sheet {
     rear_arm: -11_200,
     rear_most: 110_000,
     rear_step: 55_000,
+    water_arm: 0,
+    capacity: 0,
+    water_step: 1,
+};
+
+/// A sheet of one row that limits nothing but the front load.
+const LAX: Sheet = Sheet {
+    fwd: -2_000_000,
+    aft: 2_000_000,
+    dry: 2_000_000,
+    wet: 2_000_000,
+    nlp: 0,
+    front_arm: 0,
+    front_least: 0,
+    front_most: 500_000,
+    front_step: 1_000,
+    rear_arm: 0,
+    rear_most: 0,
+    rear_step: 1,
     water_arm: 0,
     capacity: 0,
     water_step: 1,
@@ -265,13 +284,15 @@ fn document_000_with_ballast_bars() {
     assert_eq!(range(&astir_with_bars(1_500, 1), 0).0, "0067.768");
 }
 
-/// 416.25 mm for 250..425: with the seats empty and no water the centre is on
-/// the limit, or one unit of moment behind it.
+/// 416.25 mm for 250..425: with a gram in the seat, at that arm, and no water
+/// the centre is on the limit, or one unit of moment behind it.
 #[test]
 fn the_safe_aft_limit_is_five_per_cent_inside() {
     let sheet = Sheet {
-        front_least: 0,
-        front_most: 0,
+        front_arm: 41_625,
+        front_least: 1,
+        front_most: 1,
+        front_step: 1,
         capacity: 0,
         ..ASTIR
     };
@@ -281,6 +302,82 @@ fn the_safe_aft_limit_is_five_per_cent_inside() {
         both.accept(&Call::Install(sheet));
         assert_eq!(both.placard(36).unwrap().blank, blank);
     }
+}
+
+/// The lines of a glider of 200 kg, and how many of them are blank.
+fn lines_of(sheet: Sheet) -> (String, usize) {
+    let mut both = Both::new();
+    both.accept(&weigh(1, 200_000, 0, 0, 1, 100_000));
+    both.accept(&Call::Install(sheet));
+    (both.placard_text(), both.placard(9_216).unwrap().blank)
+}
+
+/// Where 0 is a step the row begins at the next one, and is blank where there is
+/// none; where it is not, the least load stays.
+#[test]
+fn nobody_in_the_seat() {
+    for (front_least, front_most, front_step, range) in [
+        (0, 110_000, 1, "0000.001 0110.000"),
+        (0, 110_000, 1_000, "0001.000 0110.000"),
+        (0, 110_000, 110_000, "0110.000 0110.000"),
+        (0, 110_000, 110_001, "-------- --------"),
+        (0, 0, 1, "-------- --------"),
+        (0, 0, 1_000, "-------- --------"),
+        (1, 110_000, 1, "0000.001 0110.000"),
+        (2, 110_000, 1, "0000.002 0110.000"),
+        (1, 110_000, 1_000, "0001.000 0110.000"),
+        (1_000, 110_000, 1_000, "0001.000 0110.000"),
+    ] {
+        let (lines, blank) = lines_of(Sheet {
+            front_least,
+            front_most,
+            front_step,
+            ..LAX
+        });
+        assert_eq!(lines, format!("0000.000 0000.000 {range}\n"));
+        assert_eq!(blank, usize::from(range.starts_with('-')));
+    }
+}
+
+/// 50 kg are left for both seats, or for the seat and the water: where rear load
+/// or water takes them all, 0 alone would keep the limits.
+#[test]
+fn a_row_for_nobody_is_blank() {
+    let tight = Sheet {
+        dry: 250_000,
+        wet: 250_000,
+        ..LAX
+    };
+    let rear = Sheet {
+        rear_most: 50_000,
+        rear_step: 25_000,
+        ..tight
+    };
+    assert_eq!(
+        lines_of(rear),
+        (
+            "0000.000 0000.000 0001.000 0050.000\n\
+             0025.000 0000.000 0001.000 0025.000\n\
+             0050.000 0000.000 -------- --------\n"
+                .to_string(),
+            1
+        )
+    );
+    let water = Sheet {
+        capacity: 50_000,
+        water_step: 25_000,
+        ..tight
+    };
+    assert_eq!(
+        lines_of(water),
+        (
+            "0000.000 0000.000 0001.000 0050.000\n\
+             0000.000 0025.000 0001.000 0025.000\n\
+             0000.000 0050.000 -------- --------\n"
+                .to_string(),
+            1
+        )
+    );
 }
 
 #[test]

@@ -1,7 +1,7 @@
 //! The direct functions against the paper on generated cases.
 
 use judge::generate::{case, Case};
-use judge::paper::Call;
+use judge::paper::{Call, Sheet};
 use judge::run::{Answers, By, Direct, Paper, Plate, Trial, WORK};
 
 const CASES: u64 = 20_000;
@@ -38,27 +38,48 @@ impl Card1 {
     }
 }
 
-/// What the paper and the direct functions both answer; the placard is none
-/// where plain loops would take too long.
-fn same(trial: &Trial, case: &Case) -> (Answers, Option<Plate>) {
+/// Rows of sheets where 0 is a step: those that begin at the next one, and those
+/// that are blank.
+#[derive(Default)]
+struct Card2([u64; 2]);
+
+impl Card2 {
+    fn add(&mut self, sheet: &Sheet, plate: &[u8]) {
+        if sheet.front_least != 0 {
+            return;
+        }
+        let step = sheet.front_step;
+        let next = format!("{:04}.{:03}", step / 1_000, step % 1_000);
+        for line in plate.chunks(36) {
+            let smallest = &line[18..26];
+            self.0[0] += u64::from(smallest == next.as_bytes());
+            self.0[1] += u64::from(smallest == b"--------");
+        }
+    }
+}
+
+/// What the paper and the direct functions both answer, and the paper's record;
+/// the placard is none where plain loops would take too long.
+fn same(trial: &Trial, case: &Case) -> (Paper, Answers, Option<Plate>) {
     let (paper, expected) = trial.run::<Paper>();
     let (direct, given) = trial.run::<By<Direct>>();
     assert_eq!(given, expected, "{case:?}");
     if paper.work() > WORK {
-        return (expected, None);
+        return (paper, expected, None);
     }
     let plate = trial.placard(&paper);
     assert_eq!(trial.placard(&direct), plate, "{case:?}");
-    (expected, Some(plate))
+    (paper, expected, Some(plate))
 }
 
 #[test]
 fn direct_answers_as_the_paper_does() {
-    let (mut numbers, mut card_1) = (Numbers::default(), Card1::default());
+    let mut numbers = Numbers::default();
+    let (mut card_1, mut card_2) = (Card1::default(), Card2::default());
     let (mut compared, mut rows, mut blank) = (0, 0, 0);
     for index in 0..CASES {
         let case = case(SEED, index);
-        let (answers, Some(plate)) = same(&Trial::of(&case), &case) else {
+        let (paper, answers, Some(plate)) = same(&Trial::of(&case), &case) else {
             continue;
         };
         numbers.add(&answers, &plate);
@@ -67,6 +88,8 @@ fn direct_answers_as_the_paper_does() {
         if let Ok(counts) = plate.answer {
             rows += counts.rows;
             blank += counts.blank;
+            let sheet = paper.journal.and_then(|journal| journal.sheet());
+            card_2.add(&sheet.unwrap(), &plate.bytes[..counts.bytes]);
         }
     }
     // The cases are worth something only while they are spread well.
@@ -80,6 +103,11 @@ fn direct_answers_as_the_paper_does() {
         card_1.0.iter().all(|count| *count > 1_000),
         "{:?}",
         card_1.0
+    );
+    assert!(
+        card_2.0.iter().all(|count| *count > 5_000),
+        "{:?}",
+        card_2.0
     );
     assert!(rows > 300_000 && blank > rows / 5 && blank < rows / 2);
 }

@@ -121,7 +121,9 @@ pub struct Sheet {
     pub nlp: u64,
     /// The front seat.
     pub front: Station,
-    /// The least front load, in grams, at most the greatest.
+    /// The least front load, in grams, at most the greatest. A load of 0 never
+    /// keeps the limits: where this is 0 a row begins at the next step at the
+    /// earliest.
     pub front_least: u64,
     /// The rear seat; in a single-seater its greatest load is 0.
     pub rear: Station,

@@ -153,8 +153,8 @@ pub fn centre(buffer: &[u8]) -> Result<CentreOfGravity, Refusal> {
 /// line of [`LINE`](crate::LINE) bytes: rear load, water, smallest and largest
 /// front load, each as four digits of kilograms, a point and three of grams, one
 /// space between and a line feed behind. The front loads are the ends of those
-/// that keep every limit with any part of the water aboard; both are eight
-/// hyphens where there is none.
+/// that keep every limit with any part of the water aboard, 0 never among them;
+/// both are eight hyphens where there is none.
 ///
 /// # Errors
 ///

@@ -1,5 +1,5 @@
-//! The paper's worked cases, A to K, with total and moment in half grams, and a
-//! glider weighed twice.
+//! The paper's worked cases, A to K, with total and moment in half grams, a
+//! glider weighed twice, and rows for nobody.
 
 mod common;
 
@@ -202,4 +202,30 @@ fn half_a_gram_over_is_over() {
 
     assert_eq!(record.weigh_paired(&alike(G_WEIGHING)), Ok(()));
     assert_eq!(record.placard_text().unwrap(), G_PLACARD);
+}
+
+/// The glider of A has 50 kg to spare for both seats, and balances anywhere. Rows
+/// begin at the first step above 0; where the rear load takes all that is spare,
+/// 0 alone would keep the limits, and the row is blank.
+#[test]
+fn nobody_in_the_front_seat() {
+    let sheet = Sheet {
+        fwd: -2_000_000,
+        aft: 2_000_000,
+        dry: 360_000,
+        wet: 360_000,
+        nlp: 0,
+        front: station(0, 110_000, 1_000),
+        front_least: 0,
+        rear: station(0, 50_000, 25_000),
+        water: station(0, 0, 1),
+    };
+    let plate = "\
+0000.000 0000.000 0001.000 0050.000
+0025.000 0000.000 0001.000 0025.000
+0050.000 0000.000 -------- --------
+";
+    let record = record_of(&A, &sheet);
+    assert_eq!(record.placard_text().unwrap(), plate);
+    assert_eq!(record.placard(&mut [0; 3 * LINE]), Ok(counts(3, 1)));
 }

@@ -23,32 +23,37 @@ side-of-requires c κs = search needs
 side-of-requires-2 : tie.Need-side-of-requires-2
 side-of-requires-2 c κs = search needs
 
+occupied-requires : tie.Need-occupied-requires
+occupied-requires c κs = search needs
+
 weight-limit-requires : tie.Need-weight-limit-requires
-weight-limit-requires c κs = search needs
+weight-limit-requires c κs =
+    let given = c .before .before .before .before in
+    let w = given .half-grams .ensures in
+    (omega (arith, given .before .before .pre .1 .ranged .most, w .rear-most), omega (arith, w .dry-most), omega arith)
 
 weight-limit-requires-2 : tie.Need-weight-limit-requires-2
 weight-limit-requires-2 c κs =
-    let given = c .before .before .before .before in
-    let g = given .before .before .pre .1 .ranged in
+    let given = c .before .before .before .before .before in
     let w = given .half-grams .ensures in
-    (omega (arith, g .most, w .rear-most), omega (arith, w .wet-most), omega arith)
+    (omega (arith, given .before .before .pre .1 .ranged .most, w .rear-most), omega (arith, w .wet-most), omega arith)
 
 add-non-lifting-limit : tie.Need-add-non-lifting-limit
 add-non-lifting-limit c =
-    let given = c .before .before .before .before .before .before in
+    let given = c .before .before .before .before .before .before .before in
     let g = given .before .before .pre .1 .ranged in
     omega (arith, g .most, g .part, given .half-grams .ensures .rear-most)
 
 non-lifting-limit-requires : tie.Need-non-lifting-limit-requires
 non-lifting-limit-requires c κs =
-    let given = c .before .before .before .before .before .before in
+    let given = c .before .before .before .before .before .before .before in
     let g = given .before .before .pre .1 .ranged in
     let w = given .half-grams .ensures in
     (omega (arith, g .most, g .part, w .rear-most), omega (arith, w .nlp-most))
 
 moment-limit-requires : tie.Need-moment-limit-requires
 moment-limit-requires c κs =
-    let low = c .before .before .before .before in
+    let low = c .before .before .before .before .before in
     let high = low .before in
     let given = high .before .before in
     let arms = given .before in
@@ -62,7 +67,7 @@ moment-limit-requires c κs =
 
 aft-limit-requires : tie.Need-aft-limit-requires
 aft-limit-requires c κs =
-    let low = c .before .before .before .before .before in
+    let low = c .before .before .before .before .before .before in
     let high = low .before in
     let given = high .before .before in
     let arms = given .before in
@@ -83,7 +88,8 @@ returns c =
     let nlp = c .before .before .non-lifting-limit .ensures in
     let wet = c .before .before .before .before .weight-limit2 .ensures in
     let dry = c .before .before .before .before .before .weight-limit .ensures in
-    let low = c .before .before .before .before .before .before in
+    let front = c .before .before .before .before .before .before in
+    let low = front .before in
     let high = low .before in
     let given = high .before .before in
     let arms = given .before in
@@ -91,8 +97,8 @@ returns c =
     let w = given .half-grams in
     let x = high .side-of in
     let y = low .side-of2 in (
-      λ p v. keeps-limits (g .s) (g .b) (arms .arms-of .result) (arms .arms-of .ensures) (g .rear) p v (w .result) (w .ensures) (sideAt (x .result) (2 * p) (2 * v)) (sideAt (y .result) (2 * p) (2 * v)) (x .ensures .0 (2 * p) (2 * v)) (y .ensures .0 (2 * p) (2 * v)) _ _ _ _ _ (dry .0 p v) (wet .0 p v) (nlp .0 p v) (fwd .0 p v) (aft .0 p v),
-      (dry .1, (wet .1, (nlp .1, (fwd .1, (aft .1, tt))))),
+      λ p v. keeps-limits (g .s) (g .b) (arms .arms-of .result) (arms .arms-of .ensures) (g .rear) p v (w .result) (w .ensures) (sideAt (x .result) (2 * p) (2 * v)) (sideAt (y .result) (2 * p) (2 * v)) (x .ensures .0 (2 * p) (2 * v)) (y .ensures .0 (2 * p) (2 * v)) _ _ _ _ _ _ (front .occupied .ensures .0 p v) (dry .0 p v) (wet .0 p v) (nlp .0 p v) (fwd .0 p v) (aft .0 p v),
+      (front .occupied .ensures .1, (dry .1, (wet .1, (nlp .1, (fwd .1, (aft .1, tt)))))),
     )
 
 pub limits-spec : {M : Type 1} → statement M
@@ -104,6 +110,7 @@ limits-spec =
     add-weight
     side-of-requires
     side-of-requires-2
+    occupied-requires
     weight-limit-requires
     weight-limit-requires-2
     add-non-lifting-limit
