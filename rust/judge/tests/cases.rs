@@ -353,31 +353,38 @@ fn a_row_for_nobody_is_blank() {
         rear_step: 25_000,
         ..tight
     };
-    assert_eq!(
-        lines_of(rear),
-        (
-            "0000.000 0000.000 0001.000 0050.000\n\
-             0025.000 0000.000 0001.000 0025.000\n\
-             0050.000 0000.000 -------- --------\n"
-                .to_string(),
-            1
-        )
-    );
     let water = Sheet {
         capacity: 50_000,
         water_step: 25_000,
         ..tight
     };
-    assert_eq!(
-        lines_of(water),
+    let ranges = [
+        "0001.000 0050.000",
+        "0001.000 0025.000",
+        "-------- --------",
+    ];
+    for (sheet, loads) in [
         (
-            "0000.000 0000.000 0001.000 0050.000\n\
-             0000.000 0025.000 0001.000 0025.000\n\
-             0000.000 0050.000 -------- --------\n"
-                .to_string(),
-            1
-        )
-    );
+            rear,
+            [
+                "0000.000 0000.000",
+                "0025.000 0000.000",
+                "0050.000 0000.000",
+            ],
+        ),
+        (
+            water,
+            [
+                "0000.000 0000.000",
+                "0000.000 0025.000",
+                "0000.000 0050.000",
+            ],
+        ),
+    ] {
+        let line = |(loads, range)| format!("{loads} {range}\n");
+        let lines: String = loads.into_iter().zip(ranges).map(line).collect();
+        assert_eq!(lines_of(sheet), (lines, 1));
+    }
 }
 
 #[test]
