@@ -62,14 +62,14 @@ pub demand-3 : {calls : List Call} {r : Record} {answers : List ℕ} → on-reco
     → Demand3 (numbers calls) (journal calls) answers (now o) a (now o′)
 demand-3 = on-record.demand-3
 
--- So no range that is read off such a placard, of a record or of the library, begins at 0, whatever the sheet's least load.
-pub none-from-nought : {numbers : List ℕ} {es : List Entry} {answers lent : List ℕ} {a : Placard} {left : List ℕ} → Demand3 numbers es answers lent a left
-    → EachReading es a left (λ s b r w rear water x. (lo hi : ℕ) → x ≡ Range lo hi → 1 ≤ lo)
-none-from-nought = claim.none-from-nought
-
 -- It is about something: every list of calls has a trace, and a placard call after it.
 pub every-list-runs : (calls : List Call) (lent : List ℕ) → on-record.Run calls lent
 every-list-runs = on-record.every-list-runs
+
+-- No range that is read off such a placard, of a record or of the library to link, begins at 0, whatever the sheet's least load.
+pub none-from-nought : {numbers : List ℕ} {es : List Entry} {answers lent : List ℕ} {a : Placard} {left : List ℕ} → Demand3 numbers es answers lent a left
+    → EachReading es a left (λ s b r w rear water x. (lo hi : ℕ) → x ≡ Range lo hi → 1 ≤ lo)
+none-from-nought = claim.none-from-nought
 
 -- A list of calls leaves the record of its journal, whatever was refused on the way.
 pub journal-record : {calls : List Call} {r : Record} {answers : List ℕ} → on-record.Trace calls r answers → r ≡ recordOf (journal calls)

@@ -30,6 +30,11 @@ pub record Limits (step : ℕ → Bool) (most : ℕ) (at : ℕ → ℕ → Bool)
   pub bound : (p : ℕ) → step p ≡ true → p ≤ most
   pub is : (p : ℕ) → keeps p ≡ (step p && upTo (at p) w)
 
+-- a blank row has no load in its range
+blank-range : (x : Row) (p : ℕ) → isBlank x ≡ true → inRange p x ≡ false
+blank-range (Range lo hi) p e = absurd (true≢false (sym e))
+blank-range Blank p e = refl
+
 module _ {step : ℕ → Bool} {most : ℕ} {at : ℕ → ℕ → Bool} {w : ℕ} {keeps : ℕ → Bool} (l : Limits step most at w keeps) where
   pub is-step : (p : ℕ) → keeps p ≡ true → step p ≡ true
   is-step p k = left (step p) (upTo (at p) w) (sym (l .is p) ∙ k)
@@ -73,12 +78,8 @@ module _ {step : ℕ → Bool} {most : ℕ} {at : ℕ → ℕ → Bool} {w : ℕ
       ap (λ (k : Bool). k && not (inRange p (rowOf keeps most))) (kept-steps p) ∙ and-not (step p) (inRange p (rowOf keeps most))
 
   -- a row is blank where no front load keeps every limit, and only there
-  blank-keeps : (x : Row) (p : ℕ) → isBlank x ≡ true → inRange p x ≡ false
-  blank-keeps (Range lo hi) p e = absurd (true≢false (sym e))
-  blank-keeps Blank p e = refl
-
   pub blank-none : isBlank (rowOf keeps most) ≡ true → (p : ℕ) → keeps p ≡ false
-  blank-none e p = kept-steps p ∙ right-fails (step p) (inRange p (rowOf keeps most)) (blank-keeps (rowOf keeps most) p e)
+  blank-none e p = kept-steps p ∙ right-fails (step p) (inRange p (rowOf keeps most)) (blank-range (rowOf keeps most) p e)
 
   pub none-blank : ((p : ℕ) → keeps p ≡ false) → isBlank (rowOf keeps most) ≡ true
   none-blank h = ap isBlank (row-of-none keeps most (λ p k. h p))
