@@ -1,2 +1,3 @@
--- The rows of a placard by their number.
+-- The rows of a placard by their number, and what they have in common.
 pub mod Numbered
+pub mod Shared

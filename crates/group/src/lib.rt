@@ -1,25 +1,50 @@
-// The rows of a placard that stand beside one rear load, as lines in a lent buffer.
+// The rows of a placard that stand beside one rear load, as lines in a lent buffer. What is aboard is carried from row to row.
+use aboard::Arms;
+use aboard::Laden;
 use balance::Balance;
+use limits::Seat;
 use paper::Row;
 use paper::Sheet;
-use planes::HalfPlane;
-use planes::LINES;
+use paper::Weight;
+use solver::Span;
 ghost use mathlib.Core.Path.{_≡_};
 ghost use mathlib.Core.List.{List};
 ghost use Prim.Native.Nat.{ℕ, _+_, _*_, _≤_, _<_};
 ghost use lib.ListN.{length};
-ghost use Rattle.laws.specs.Lists.{Each};
 ghost use Rattle.laws.specs.Written.{written};
 ghost use Rattle.paper.specs.Record.{Balance as Plain};
-ghost use Rattle.paper.specs.Rows.{keepsAt, row, rowCount};
-ghost use Rattle.paper.specs.Placard.{line, lineLength};
+ghost use Rattle.paper.specs.Rows.{row, rowCount};
+ghost use Rattle.paper.specs.Placard.{kilograms, line, lineLength};
 ghost use Rattle.paper.specs.Refusals.{firstNumber, sheetFaults};
 ghost use Rattle.balance.specs.Balance.{plain, Bounded};
-ghost use Rattle.planes.specs.Plane.{allHold, Small};
+ghost use Rattle.aboard.specs.Aboard.{Beside, Room};
+ghost use Rattle.limits.specs.Seats.{Seated, NoneOf};
+ghost use Rattle.line.specs.Word.{word};
 ghost use Rattle.group.specs.Numbered.{rears, waters as Numbered·waters, blanks, linesTo, blanksTo};
+ghost use Rattle.group.specs.Shared.{TermsOf};
 
 // How many bytes a line has.
 pub const LINE: usize = 36;
+
+// What all rows of a placard have in common: the arms, the front seat, and a step of water.
+pub struct Terms {
+    pub arms: Arms,
+    pub seat: Seat,
+    pub share: Laden,
+}
+
+// Those of an accepted sheet.
+pub fn terms_of(s: Sheet) -> Terms
+    requires { ⌜ firstNumber (sheetFaults s) ≡ 0 ⌝ }
+    ensures { λ t. ⌜ TermsOf s t ⌝ }
+{
+    let arms = aboard::arms_of(s);
+    Terms {
+        arms: arms,
+        seat: limits::seat_of(s, arms),
+        share: aboard::grams_at(s.water.step, arms.water, arms),
+    }
+}
 
 // What a row counts for among the blank ones.
 fn blank(x: Row) -> usize
@@ -31,36 +56,45 @@ fn blank(x: Row) -> usize
     }
 }
 
-// The line of a row, as the i-th: behind the lines before it.
+// The line of a row, as the i-th: behind the lines before it. The rear load comes as its field, and with all of the water it is
+// aboard x; a span holds the steps that keep every limit with none of it.
 fn put_row(
     s: Sheet,
-    limits: [HalfPlane; LINES],
+    t: Terms,
+    span: Span,
+    x: Laden,
     rear: u64,
     water: u64,
     i: usize,
     out: &mut [u8],
 ) -> usize
-    requires { ⌜ (firstNumber (sheetFaults s) ≡ 0) × Each Small limits × (water ≤ 2000000) × (lineLength * (i + 1) ≤ length (now out)) ⌝ }
-    ensures { λ n. ⌜ (n ≤ 1) × ((b : Plain) → ((p v : ℕ) → keepsAt s b rear p v ≡ allHold limits p v) → (n ≡ blanks (row s b rear water)) × (now (out .exit) ≡ written (now (out .entry)) (lineLength * i) (line rear water (row s b rear water)))) ⌝ }
+    requires { ⌜ (firstNumber (sheetFaults s) ≡ 0) × TermsOf s t × Seated s span × Room 256 x × (water ≤ 2000000) × (i < 256) × (lineLength * (i + 1) ≤ length (now out)) ⌝ }
+    ensures { λ n. ⌜ (n ≤ 1) × ((b : Plain) (r : ℕ) → rear ≡ word (kilograms r) → Beside s b r water x → NoneOf s b r span → (n ≡ blanks (row s b r water)) × (now (out .exit) ≡ written (now (out .entry)) (lineLength * i) (line r water (row s b r water)))) ⌝ }
 {
-    let x = row::row(s, limits, water);
-    line::put_line(&mut out[LINE * i..], rear, water, x);
-    blank(x)
+    let y = row::row(s, t.seat, span, x);
+    line::put_line(&mut out[LINE * i..], rear, line::field(water), y);
+    blank(y)
 }
 
-// The lines of the rows beside the j-th rear load, which have their limits in common.
-pub fn put_group(s: Sheet, b: Balance, j: usize, waters: usize, out: &mut [u8]) -> usize
-    requires { ⌜ (firstNumber (sheetFaults s) ≡ 0) × Bounded 1024 b × (waters ≡ Numbered·waters s) × (j < rears s) × (lineLength * rowCount s ≤ length (now out)) ⌝ }
+// The lines of the rows beside the j-th rear load. What is aboard starts afresh with it, and goes on by the share of a step of
+// water; the share behind the last row is added and not used.
+pub fn put_group(s: Sheet, t: Terms, b: Balance, j: usize, waters: usize, out: &mut [u8]) -> usize
+    requires { ⌜ (firstNumber (sheetFaults s) ≡ 0) × TermsOf s t × Bounded 1024 b × (waters ≡ Numbered·waters s) × (j < rears s) × (lineLength * rowCount s ≤ length (now out)) ⌝ }
     ensures { λ n. ⌜ (n ≤ waters) × (n + blanksTo s (plain b) (j * waters) ≡ blanksTo s (plain b) (j * waters + waters)) × (length (now (out .exit)) ≡ length (now (out .entry))) × ((lent : List ℕ) → length lent ≡ length (now (out .entry)) → now (out .entry) ≡ written lent 0 (linesTo s (plain b) (j * waters)) → now (out .exit) ≡ written lent 0 (linesTo s (plain b) (j * waters + waters))) ⌝ }
 {
     let rear = j as u64 * s.rear.step;
-    let limits = limits::limits(s, b, rear);
+    let mut x = aboard::beside(t.arms, b, rear);
+    let span = limits::with_none(s, t.seat, x, b.nonlifting + Weight::HALVES * rear);
+    let field = line::field(rear);
     let first = j * waters;
     let mut none = 0;
+    let mut water = 0;
     let mut k = 0;
     while k < waters {
-        let water = k as u64 * s.water.step;
-        none += put_row(s, limits, rear, water, first + k, out);
+        let next = aboard::carried(x, t.share);
+        none += put_row(s, t, span, x, field, water, first + k, out);
+        x = next;
+        water += s.water.step;
         k += 1;
     }
     none

@@ -1,123 +1,133 @@
--- The half-planes of the code keep the paper's lines: each line by the sides of its arms. Assumes nothing.
+-- The paper's lines for a front load of k steps are orders of what the code carries: what is aboard with k steps more stands for
+-- the whole weight and moment, and a line is one order of its sides. Assumes nothing.
 use mathlib.Core.Path.{_≡_, refl, sym, ap, _∙_}
-use mathlib.Core.Bool.{Bool, true, _&&_, _||_}
-use Prim.Native.Nat.{ℕ, zero, suc, _+_, _*_}
-use native.Mathlib.Nat.{add-zero}
+use mathlib.Core.Bool.{Bool, true, _&&_, _||_, and-assoc, and-true}
+use Prim.Native.Nat.{ℕ, zero, suc, _+_, _*_, _/_, _≤_, _<_}
+use native.Mathlib.Nat.{le-div-iff-mul-le}
 use native.Mathlib.Omega.{arith}
 use lib.Dec.{leb, eqb}
+use lib.IntN.{ℤ, pos, _+ℤ_, _*ℤ_}
+use lib.Signed.{leZ}
 use borrow.Author.Tests.{ne-eqb}
-use Rattle.laws.specs.Tests.{leb-by}
-use Rattle.laws.specs.Z.{is-nat, is-sub, is-sides}
+use Rattle.laws.specs.declared.Sides.{Sides}
+use Rattle.laws.specs.Tests.{same, left, leb-by, in-span, span-lo, span-hi}
+use Rattle.laws.specs.Z.{Is, is-nat, is-add, is-mul, leZ-test}
 use Rattle.paper.specs.declared.Sheet.{Sheet}
-use Rattle.paper.specs.Rows.{keepsAt}
-use Rattle.balance.specs.declared.Balance.{Balance}
-use Rattle.balance.specs.Balance.{plain}
-use Rattle.planes.specs.declared.HalfPlane.{HalfPlane}
-use Rattle.planes.specs.Plane.{holds}
-use Rattle.planes.proofs.Lines.{Parts, PartsOf, halves, fwdLow, fwdHigh, aftLow, aftHigh, keeps-tests, inGrams, holds-test}
-use Rattle.limits.specs.declared.Arms.{Arms}
-use Rattle.limits.specs.declared.Weights.{Weights}
-use Rattle.limits.specs.declared.Side.{Side}
-use Rattle.limits.specs.Turned.{ArmsOf, WeightsOf, sideAt, Within}
-
--- what `in_grams` gives
-pub in-grams : (l : HalfPlane) (p v : ℕ) → holds l (2 * p) (2 * v) ≡ holds (inGrams l) p v
-unfolding holds
-in-grams l p v =
-    holds-test (inGrams l) p v (l .gamma0 + 2 * v * l .gamma1 + l .delta * (2 * p)) (l .alpha0 + 2 * v * l .alpha1 + l .beta * (2 * p)) (omega arith) (omega arith)
-
--- what `moment_limit` gives, where x and y are the two products
-abbrev pub momentPlane : Side → Side → ℕ → ℕ → ℕ → ℕ → HalfPlane
-momentPlane high low up down x y =
-    record {
-      alpha0 = high .base + x;
-      alpha1 = high .water + up;
-      beta = high .front + up;
-      gamma0 = low .base + y;
-      gamma1 = low .water + down;
-      delta = low .front + down;
-    }
-
-pub moment-holds : (high low : Side) (weight up down x y : ℕ) → x ≡ weight * up → y ≡ weight * down → (p v : ℕ)
-    → leb (sideAt low p v + down * (weight + p + v)) (sideAt high p v + up * (weight + p + v)) ≡ holds (momentPlane high low up down x y) p v
-unfolding sideAt
-moment-holds high low weight up down x y e f p v =
-    holds-test (momentPlane high low up down x y) p v (sideAt low p v + down * (weight + p + v)) (sideAt high p v + up * (weight + p + v)) (omega arith) (omega arith)
-
-pub twenty-at : (s t : Side) → t .base ≡ 20 * s .base → t .front ≡ 20 * s .front → t .water ≡ 20 * s .water → (p v : ℕ) → sideAt t p v ≡ 20 * sideAt s p v
-unfolding sideAt
-twenty-at s t e f g p v = rw (e, f, g) (omega arith)
-
-pub side-at : (t : Side) (base front water : ℕ) → t .base ≡ base → t .front ≡ front → t .water ≡ water → (p v : ℕ) → sideAt t p v ≡ base + p * front + v * water
-unfolding sideAt
-side-at t base front water e f g p v = rw (e, f, g)
-
-pub wider : (s : Side) → Within 1 s → Within 20 s
-wider s w = record { base = omega (arith, w .base); front = omega (arith, w .front); water = omega (arith, w .water) }
-
--- ---- the lines of a sheet and a balance
+use Rattle.paper.specs.Units.{halfGrams}
+use Rattle.paper.specs.Record.{Balance}
+use Rattle.paper.specs.Rows.{laden, atMost, lines, all, keepsAt}
+use Rattle.planes.proofs.Lines.{half-is, at-most, laden-on-total, laden-on-moment, laden-on-part}
+use Rattle.planes.proofs.Ends.{wetLine, fwdLine, aftLine, nlpLine, dryLine}
+use Rattle.aboard.specs.declared.Laden.{Laden}
+use Rattle.aboard.specs.Aboard.{safeArm, plus, scaled, Stands, Beside, LoadOf}
+use Rattle.aboard.proofs.Standing.{is-by, stands-plus, load-scaled}
+use Rattle.limits.specs.Seats.{forwardRoom, safeRoom, inSeat}
 
 -- no half grams are no grams
-no-halves : (n : ℕ) → eqb (2 * n) 0 ≡ eqb n 0
+no-halves : (n : ℕ) → eqb n 0 ≡ eqb (2 * n) 0
 no-halves zero = refl
-no-halves (suc n) = ne-eqb (2 * suc n) 0 (omega arith) ∙ sym (ne-eqb (suc n) 0 (omega arith))
+no-halves (suc n) = ne-eqb (suc n) 0 (omega arith) ∙ sym (ne-eqb (2 * suc n) 0 (omega arith))
 
--- so a limit of no half grams is none
-unless : {t : Bool} (n k m m′ : ℕ) → k ≡ 2 * n → m′ ≡ m → (eqb k 0 || leb m k) ≡ t → (eqb n 0 || leb m′ (2 * n + 0)) ≡ t
-unless n k m m′ e f h = rw (f, add-zero (2 * n), ← e, ← no-halves n, ← e) h
+-- two tests, part by part
+pub parts : {a b c d : Bool} → a ≡ c → b ≡ d → (a && b) ≡ (c && d)
+parts e f = rw (e, f)
 
-module _ (s : Sheet) (b : Balance) (a : Arms) (o : ArmsOf s a) where
-  abbrev parts : Parts
-  parts =
-      record {
-        total = record { up = b .total; down = 0 };
-        moment = record { up = b .aft; down = b .fore };
-        nonLifting = record { up = b .nonlifting; down = 0 };
-        fwd = a .fwd;
-        aft = a .aft;
-        front = a .front;
-        rear = a .seat;
-        water = a .water;
-      }
+-- ---- the steps of the seat, where lo is the least number of them that makes the least load
 
-  parts-of : PartsOf s (plain b) parts
-  parts-of =
-      let m = is-sub (is-nat (b .aft)) (is-nat (b .fore)) in
-      record {
-        total = is-nat (b .total);
-        moment = record { is = omega (arith, m .is) };
-        nonLifting = is-nat (b .nonlifting);
-        fwd = is-sides (o .fwd);
-        aft = is-sides (o .aft);
-        front = is-sides (o .front);
-        rear = is-sides (o .seat);
-        water = is-sides (o .water);
-      }
+module _ (s : Sheet) (lo : ℕ) (pos : 0 < s .front .step) (least : (q : ℕ) → (lo ≤ q → s .least ≤ q * s .front .step) × (s .least ≤ q * s .front .step → lo ≤ q)) (k : ℕ) where
+  pub in-seat : (leb lo k && leb k (s .front .most / s .front .step)) ≡ inSeat s k
+  in-seat =
+      let f = s .front .step in
+      let most = le-div-iff-mul-le {k = f} {x = k} {y = s .front .most} pos in
+      same (leb lo k && leb k (s .front .most / f)) (inSeat s k)
+      (λ e. in-span (s .least) (s .front .most) (k * f) (least k .0 (span-lo lo (s .front .most / f) k e)) (most .0 (span-hi lo (s .front .most / f) k e)))
+      (λ e. in-span lo (s .front .most / f) k (least k .1 (span-lo (s .least) (s .front .most) (k * f) e)) (most .1 (span-hi (s .least) (s .front .most) (k * f) e)))
 
-  module _ (rear p v : ℕ) (g : Weights) (k : WeightsOf s rear g) where
-    abbrev weight : ℕ
-    weight = b .total + g .rear
+-- a load of one gram or more
+pub occupied : (f k : ℕ) → leb (1 + 0 * k) (0 + f * k) ≡ leb 1 (k * f)
+occupied f k = leb-by (1 + 0 * k) (0 + f * k) 1 (k * f) (omega arith) (omega arith) refl
 
-    times : (n : ℕ) → n * g .rear ≡ n * (2 * rear)
-    times n = ap (λ (m : ℕ). n * m) (k .rear)
+-- ---- the lines of what is carried
 
-    -- x is what turns aft, and y what turns forward
-    pub keeps-limits : (x y : ℕ) → x ≡ b .aft + g .rear * a .seat .up + 2 * p * a .front .up + 2 * v * a .water .up
-        → y ≡ b .fore + g .rear * a .seat .down + 2 * p * a .front .down + 2 * v * a .water .down
-        → (front first second third fourth fifth : Bool)
-        → leb 1 p ≡ front
-        → leb (weight + 2 * p + 2 * v * 0) (g .dry) ≡ first
-        → leb (weight + 2 * p + 2 * v * 1) (g .wet) ≡ second
-        → (eqb (g .nlp) 0 || leb (b .nonlifting + g .rear + 2 * p) (g .nlp)) ≡ third
-        → leb (y + a .fwd .up * (weight + 2 * p + 2 * v)) (x + a .fwd .down * (weight + 2 * p + 2 * v)) ≡ fourth
-        → leb (20 * x + (19 * a .aft .down + a .fwd .down) * (weight + 2 * p + 2 * v)) (20 * y + (19 * a .aft .up + a .fwd .up) * (weight + 2 * p + 2 * v)) ≡ fifth
-        → keepsAt s (plain b) rear p v ≡ (front && (first && (second && (third && (fourth && (fifth && true))))))
-    keeps-limits x y ex ey t₀ t₁ t₂ t₃ t₄ t₅ e₀ e₁ e₂ e₃ e₄ e₅ =
-        let m = weight + 2 * p + 2 * v in
-        keeps-tests s (plain b) parts parts-of rear p v t₀ t₁ t₂ t₃ t₄ t₅
-        e₀
-        (leb-by (halves parts rear p 0) (2 * s .dry + 0) (weight + 2 * p + 2 * v * 0) (g .dry) (omega (arith, k .rear)) (omega (arith, k .dry)) e₁)
-        (leb-by (halves parts rear p v) (2 * s .wet + 0) (weight + 2 * p + 2 * v * 1) (g .wet) (omega (arith, k .rear)) (omega (arith, k .wet)) e₂)
-        (unless (s .nlp) (g .nlp) (b .nonlifting + g .rear + 2 * p) (b .nonlifting + 2 * (p + rear)) (k .nlp) (omega (arith, k .rear)) e₃)
-        (leb-by (fwdLow parts rear p v) (fwdHigh parts rear p v) (y + a .fwd .up * m) (x + a .fwd .down * m) (omega (arith, times (a .seat .down), times (a .fwd .up))) (omega (arith, times (a .seat .up), times (a .fwd .down))) e₄)
-        (leb-by (aftLow parts rear p v) (aftHigh parts rear p v) (20 * x + (19 * a .aft .down + a .fwd .down) * m) (20 * y + (19 * a .aft .up + a .fwd .up) * m) (omega (arith, times (a .seat .up), times (a .aft .down), times (a .fwd .down))) (omega (arith, times (a .seat .down), times (a .aft .up), times (a .fwd .up))) e₅)
+weight-is : {t m : ℤ} {s : Sheet} (x : Laden) → Stands s t m x → Is t (x .weight) 0
+weight-is x h = rw (h .weight) at (is-nat (x .weight))
+
+module _ (s : Sheet) {t m : ℤ} (x : Laden) (h : Stands s t m x) where
+  weight-test : (most : ℕ) → atMost most t ≡ leb (x .weight) (2 * most + 0)
+  weight-test most = at-most (weight-is x h) most
+
+  fwd-test : leZ (s .fwd *ℤ t) m ≡ leb (forwardRoom x .down) (forwardRoom x .up)
+  fwd-test =
+      leZ-test (is-by (x .forward) (h .forward)) (is-by (x .moment) (h .moment)) (forwardRoom x .down) (forwardRoom x .up) (omega arith)
+
+  aft-test : leZ (pos 20 *ℤ m) (safeArm s *ℤ t) ≡ leb (safeRoom x .down) (safeRoom x .up)
+  aft-test =
+      leZ-test (is-mul (is-nat 20) (is-by (x .moment) (h .moment))) (is-by (x .safe) (h .safe)) (safeRoom x .down) (safeRoom x .up) (omega arith)
+
+-- ---- and with k steps more
+
+-- the order that each line is, of what is aboard and what a step adds
+module _ (x y : Laden) (k : ℕ) where
+  abbrev pub weightTest : ℕ → Bool
+  weightTest most = leb (x .weight + y .weight * k) (2 * most)
+
+  abbrev pub fwdTest : Bool
+  fwdTest = leb (forwardRoom x .down + forwardRoom y .down * k) (forwardRoom x .up + forwardRoom y .up * k)
+
+  abbrev pub aftTest : Bool
+  aftTest = leb (safeRoom x .down + safeRoom y .down * k) (safeRoom x .up + safeRoom y .up * k)
+
+module _ (s : Sheet) (b : Balance) (r v : ℕ) (x y : Laden) (h : Beside s b r v x) (l : LoadOf s (s .front .step) (s .front .arm) y) (k : ℕ) where
+  abbrev load : ℕ
+  load = k * s .front .step
+
+  whole : Stands s (laden s b r load v .total) (laden s b r load v .moment) (plus x (scaled k y))
+  whole =
+      rw (laden-on-total s b r load v, laden-on-moment s b r load v)
+      (stands-plus s x (scaled k y) h (load-scaled s k (s .front .step) (s .front .arm) y l))
+
+  pub weight-line : (most : ℕ) → atMost most (laden s b r load v .total) ≡ weightTest x y k most
+  weight-line most =
+      weight-test s (plus x (scaled k y)) whole most
+      ∙ leb-by (x .weight + k * y .weight) (2 * most + 0) (x .weight + y .weight * k) (2 * most) (omega arith) (omega arith) refl
+
+  -- the order of two sides, with the steps counted apart
+  by-room : (room : Laden → Sides) → room (plus x (scaled k y)) .down ≡ room x .down + room y .down * k → room (plus x (scaled k y)) .up ≡ room x .up + room y .up * k → leb (room (plus x (scaled k y)) .down) (room (plus x (scaled k y)) .up) ≡ leb (room x .down + room y .down * k) (room x .up + room y .up * k)
+  by-room room e f = rw (e, f)
+
+  pub fwd-line : fwdLine s b r load v ≡ fwdTest x y k
+  fwd-line = fwd-test s (plus x (scaled k y)) whole ∙ by-room forwardRoom (omega arith) (omega arith)
+
+  pub aft-line : aftLine s b r load v ≡ aftTest x y k
+  aft-line = aft-test s (plus x (scaled k y)) whole ∙ by-room safeRoom (omega arith) (omega arith)
+
+  -- n is the non-lifting weight with the rear load aboard
+  pub nlp-line : (n : ℕ) → pos n ≡ b .nonLifting +ℤ halfGrams (pos r) → nlpLine s b r load v ≡ (eqb (2 * s .nlp) 0 || leb (n + y .weight * k) (2 * s .nlp))
+  nlp-line n e =
+      let more = weight-is (scaled k y) (load-scaled s k (s .front .step) (s .front .arm) y l) in
+      let part : Is (laden s b r load v .nonLifting) (n + k * y .weight) (0 + 0) = rw (laden-on-part s b r load v, ← e) (is-add (is-nat n) more) in
+      let test : atMost (s .nlp) (laden s b r load v .nonLifting) ≡ leb (n + y .weight * k) (2 * s .nlp) =
+      at-most part (s .nlp) ∙ leb-by (n + k * y .weight) (2 * s .nlp + (0 + 0)) (n + y .weight * k) (2 * s .nlp) (omega arith) (omega arith) refl in
+      rw (test, no-halves (s .nlp))
+
+-- ---- all of them
+
+-- the first of seven tests
+pub first-of : (r a b c d e f g : Bool) → r ≡ ((((((a && b) && c) && d) && e) && f) && g) → r ≡ true → a ≡ true
+first-of r a b c d e f g h t =
+    left a b
+    (left (a && b) c
+    (left ((a && b) && c) d
+    (left (((a && b) && c) && d) e (left ((((a && b) && c) && d) && e) f (left (((((a && b) && c) && d) && e) && f) g (sym h ∙ t))))))
+
+-- with none of the water
+pub none-kept : (s : Sheet) (b : Balance) (r p : ℕ) (seat dry wet nlp fwd aft : Bool)
+    → dryLine s b r p 0 ≡ dry → wetLine s b r p 0 ≡ wet → nlpLine s b r p 0 ≡ nlp → fwdLine s b r p 0 ≡ fwd → aftLine s b r p 0 ≡ aft
+    → ((((((seat && leb 1 p) && dry) && wet) && nlp) && fwd) && aft) ≡ (seat && keepsAt s b r p 0)
+unfolding keepsAt lines all
+none-kept s b r p seat dry wet nlp fwd aft d w n f a =
+    rw (d, w, n, f, a) (simp (and-assoc, and-true))
+
+-- and with all of it, where x is the line of the moment that is left
+pub all-kept : (seat none all wet x : Bool) → all ≡ (none && (wet && x)) → (((seat && none) && wet) && x) ≡ (seat && all)
+all-kept seat none all wet x e = rw e (simp and-assoc)

@@ -1,2 +1,2 @@
--- What the proofs share: the lines of limits by the sides that the code carries.
+-- What the proofs share: the paper's lines for a number of steps, by what the code carries.
 pub mod Laws

@@ -1,2 +1,2 @@
--- What the sides of a moment are.
-pub mod Turned
+-- The front seat, and which steps in it keep the limits.
+pub mod Seats

@@ -27,12 +27,13 @@ fn put_rows(s: Sheet, b: Balance, out: &mut [u8]) -> usize
     requires { ⌜ (firstNumber (sheetFaults s) ≡ 0) × Bounded 1024 b × (lineLength * rowCount s ≤ length (now out)) ⌝ }
     ensures { λ n. ⌜ (n ≡ blankCount s (plain b)) × (now (out .exit) ≡ written (now (out .entry)) 0 (text s (plain b))) ⌝ }
 {
+    let t = group::terms_of(s);
     let rears = sheet::loads(s.rear) as usize;
     let waters = sheet::loads(s.water) as usize;
     let mut none = 0;
     let mut j = 0;
     while j < rears {
-        none += group::put_group(s, b, j, waters, out);
+        none += group::put_group(s, t, b, j, waters, out);
         j += 1;
     }
     none

@@ -20,6 +20,14 @@ unfoldable pub laden : Sheet → Balance → ℕ → ℕ → ℕ → Balance
 laden s b r p v =
     with (with (with b (pos p) (s .front .arm) true) (pos r) (s .rear .arm) true) (pos v) (s .water .arm) false
 
+-- what the front load of a row comes on top of, with rear load r and all of water w aboard: G with both, and M with each at its
+-- arm. The moment is the one carried down the page (paper 02, card 3)
+unfoldable pub totalBeside : Balance → ℕ → ℕ → ℤ
+totalBeside b r w = b .total +ℤ halfGrams (pos r) +ℤ halfGrams (pos w)
+
+unfoldable pub momentBeside : Sheet → Balance → ℕ → ℕ → ℤ
+momentBeside s b r w = b .moment +ℤ halfGrams (pos r) *ℤ s .rear .arm +ℤ halfGrams (pos w) *ℤ s .water .arm
+
 -- a weight of a balance is at most so many grams
 unfoldable pub atMost : ℕ → ℤ → Bool
 atMost most g = leZ g (halfGrams (pos most))

@@ -8,8 +8,7 @@ use native.Mathlib.Omega.{arith}
 use Rattle.laws.specs.Tests.{both, left, right, and-swapped}
 use Rattle.laws.specs.Slopes.{between}
 use Rattle.paper.specs.Rows.{upTo}
-use Rattle.planes.specs.declared.HalfPlane.{HalfPlane}
-use Rattle.planes.specs.Plane.{holds, allHold, Says}
+use Rattle.planes.specs.Plane.{HalfPlane, holds, allHold, Says}
 use Rattle.planes.proofs.Water.{keeps-plane, plane-kept, ends-decide, all-hold-more, all-hold-none}
 
 -- ---- the water

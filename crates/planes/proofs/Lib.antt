@@ -3,4 +3,5 @@ pub mod Searches
 pub mod Water
 pub mod Lines
 pub mod Convex
+pub mod Ends
 pub mod Rows

@@ -15,9 +15,8 @@ use Rattle.laws.specs.Z.{Is, up, dn, is-nat, is-int, is-add, is-mul, same, leZ-
 use Rattle.paper.specs.declared.Sheet.{Sheet}
 use Rattle.paper.specs.Units.{halfGrams}
 use Rattle.paper.specs.Record.{Balance, with}
-use Rattle.paper.specs.Rows.{laden, atMost, lines, all, keepsAt}
-use Rattle.planes.specs.declared.HalfPlane.{HalfPlane}
-use Rattle.planes.specs.Plane.{holds, allHold, Says}
+use Rattle.paper.specs.Rows.{laden, totalBeside, momentBeside, atMost, lines, all, keepsAt}
+use Rattle.planes.specs.Plane.{HalfPlane, holds, allHold, Says}
 
 -- the integers that the lines are made of, each by two sides
 pub record Parts : Type 0 where
@@ -106,12 +105,12 @@ module _ (q : Parts) (r p v : ℕ) where
 
 -- ---- what is aboard
 
-half-is : (n : ℕ) → Is (halfGrams (pos n)) (2 * n) 0
+pub half-is : (n : ℕ) → Is (halfGrams (pos n)) (2 * n) 0
 unfolding halfGrams
 half-is n = let t = is-mul (is-nat 2) (is-nat n) in record { is = omega (arith, t .is) }
 
 -- a load at an arm
-turned-is : (n : ℕ) {arm : ℤ} {u d : ℕ} → Is arm u d → Is (halfGrams (pos n) *ℤ arm) (2 * (n * u)) (2 * (n * d))
+pub turned-is : (n : ℕ) {arm : ℤ} {u d : ℕ} → Is arm u d → Is (halfGrams (pos n) *ℤ arm) (2 * (n * u)) (2 * (n * d))
 turned-is n h = let t = is-mul (half-is n) h in record { is = omega (arith, t .is) }
 
 module _ (s : Sheet) (b : Balance) (q : Parts) (o : PartsOf s b q) (r p v : ℕ) where
@@ -157,9 +156,45 @@ module _ (s : Sheet) (b : Balance) (r p v : ℕ) where
       same (part-is s b (partsOf s b) (parts-of s b) r p v)
       (is-add (is-int (b .nonLifting)) (is-mul (is-nat 2) (is-add (is-nat p) (is-nat r)))) (omega arith)
 
+-- ---- the same as the front load on top of what is aboard beside it
+
+beside-total : (b : Balance) (r v : ℕ) → Is (totalBeside b r v) (up (b .total) + 2 * (r + v)) (dn (b .total))
+unfolding totalBeside
+beside-total b r v = let t = is-add (is-add (is-int (b .total)) (half-is r)) (half-is v) in record { is = omega (arith, t .is) }
+
+beside-moment : (s : Sheet) (b : Balance) (r v : ℕ) → Is (momentBeside s b r v) (up (b .moment) + 2 * (r * up (s .rear .arm) + v * up (s .water .arm))) (dn (b .moment) + 2 * (r * dn (s .rear .arm) + v * dn (s .water .arm)))
+unfolding momentBeside
+beside-moment s b r v =
+    let t =
+    is-add (is-add (is-int (b .moment)) (turned-is r (is-int (s .rear .arm)))) (turned-is v (is-int (s .water .arm))) in
+    record { is = omega (arith, t .is) }
+
+module _ (s : Sheet) (b : Balance) (r p v : ℕ) where
+  pub laden-on-total : laden s b r p v .total ≡ totalBeside b r v +ℤ halfGrams (pos p)
+  laden-on-total =
+      same (total-is s b (partsOf s b) (parts-of s b) r p v) (is-add (beside-total b r v) (half-is p)) (omega arith)
+
+  pub laden-on-part : laden s b r p v .nonLifting ≡ b .nonLifting +ℤ halfGrams (pos r) +ℤ halfGrams (pos p)
+  laden-on-part =
+      same (part-is s b (partsOf s b) (parts-of s b) r p v)
+      (is-add (is-add (is-int (b .nonLifting)) (half-is r)) (half-is p)) (omega arith)
+
+  pub laden-on-moment : laden s b r p v .moment ≡ momentBeside s b r v +ℤ halfGrams (pos p) *ℤ s .front .arm
+  laden-on-moment =
+      same (moment-is s b (partsOf s b) (parts-of s b) r p v)
+      (is-add (beside-moment s b r v) (turned-is p (is-int (s .front .arm)))) (omega arith)
+
+-- so much more water
+pub beside-more-total : (b : Balance) (r w v : ℕ) → totalBeside b r (w + v) ≡ totalBeside b r w +ℤ halfGrams (pos v)
+beside-more-total b r w v = same (beside-total b r (w + v)) (is-add (beside-total b r w) (half-is v)) (omega arith)
+
+pub beside-more-moment : (s : Sheet) (b : Balance) (r w v : ℕ) → momentBeside s b r (w + v) ≡ momentBeside s b r w +ℤ halfGrams (pos v) *ℤ s .water .arm
+beside-more-moment s b r w v =
+    same (beside-moment s b r (w + v)) (is-add (beside-moment s b r w) (turned-is v (is-int (s .water .arm)))) (omega arith)
+
 -- ---- the lines
 
-at-most : {z : ℤ} {u d : ℕ} → Is z u d → (most : ℕ) → atMost most z ≡ leb u (2 * most + d)
+pub at-most : {z : ℤ} {u d : ℕ} → Is z u d → (most : ℕ) → atMost most z ≡ leb u (2 * most + d)
 unfolding atMost
 at-most {u = u} {d} h most = leZ-test h (half-is most) u (2 * most + d) (omega arith)
 

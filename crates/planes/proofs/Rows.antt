@@ -14,8 +14,7 @@ use Rattle.paper.specs.declared.Row.{Row}
 use Rattle.paper.specs.declared.Row.the-variants.{Range, Blank}
 use Rattle.paper.specs.Record.{Balance}
 use Rattle.paper.specs.Rows.{lines, all, anyFails, keepsAt, breaksAt, upTo, isStep, keeps, rowOf, row, inRange, isBlank}
-use Rattle.planes.specs.declared.HalfPlane.{HalfPlane}
-use Rattle.planes.specs.Plane.{Says}
+use Rattle.planes.specs.Plane.{HalfPlane, Says}
 use Rattle.planes.proofs.Searches.{up-to, up-to-at, Outcome, a-range, a-blank, outcome, found, row-of-none}
 use Rattle.planes.proofs.Lines.{planesOf, keeps-planes}
 use Rattle.planes.proofs.Convex.{convex}

@@ -11,8 +11,7 @@ use borrow.Author.Tests.{leb-true, le-leb}
 use Rattle.laws.specs.Tests.{same, both, left, right}
 use Rattle.laws.specs.Slopes as slopes
 use Rattle.paper.specs.Rows.{upTo}
-use Rattle.planes.specs.declared.HalfPlane.{HalfPlane}
-use Rattle.planes.specs.Plane.{holds, allHold}
+use Rattle.planes.specs.Plane.{HalfPlane, holds, allHold}
 use Rattle.planes.proofs.Searches.{up-to, up-to-at}
 
 -- ---- two tests at once, and a test that always passes

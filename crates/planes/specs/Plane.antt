@@ -1,12 +1,18 @@
--- Half-planes of front load and water: what it is to keep one, some of them, which of them say what a row's limits say, and which
--- numbers are small enough to reckon with.
+-- Half-planes of front load and water: what it is to keep one, some of them, and which of them say what a row's limits say.
 use mathlib.Core.Path.{_≡_}
 use mathlib.Core.Bool.{Bool, true, _&&_}
 use mathlib.Core.List.{List, [], _∷_}
-use Prim.Native.Nat.{ℕ, _+_, _*_, _%_, _^_, _<_}
-use lib.Dec.{leb, eqb}
-use Rattle.paper.specs.Rows.{upTo}
-use Rattle.planes.specs.declared.HalfPlane.{HalfPlane}
+use Prim.Native.Nat.{ℕ, _+_, _*_}
+use lib.Dec.{leb}
+
+-- a limit of front load p and water v: alpha0 + v * alpha1 + beta * p is at least gamma0 + v * gamma1 + delta * p
+pub record HalfPlane : Type 0 where
+  pub alpha0 : ℕ
+  pub alpha1 : ℕ
+  pub beta : ℕ
+  pub gamma0 : ℕ
+  pub gamma1 : ℕ
+  pub delta : ℕ
 
 -- front load p keeps a half-plane with water v aboard
 unfoldable pub holds : HalfPlane → ℕ → ℕ → Bool
@@ -21,14 +27,3 @@ allHold (l ∷ ls) p v = holds l p v && allHold ls p v
 -- some half-planes say what a test of front load and water says, as that of a row's limits (`keepsAt`)
 abbrev pub Says : List HalfPlane → (ℕ → ℕ → Bool) → Type 0
 Says ls q = (p v : ℕ) → q p v ≡ allHold ls p v
-
--- a multiple of f from least to most that keeps each of some half-planes with every part of the water w aboard
-unfoldable pub kept : ℕ → ℕ → ℕ → ℕ → List HalfPlane → ℕ → Bool
-kept f least most w ls p = (eqb (p % f) 0 && leb least p && leb p most) && upTo (allHold ls p) w
-
--- coefficients that leave room for the sums at every water below 2 ^ 30
-pub record Small (l : HalfPlane) : Type 0 where
-  pub alpha0 : l .alpha0 < 2 ^ 62
-  pub alpha1 : l .alpha1 < 2 ^ 30
-  pub gamma0 : l .gamma0 < 2 ^ 62
-  pub gamma1 : l .gamma1 < 2 ^ 30

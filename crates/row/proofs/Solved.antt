@@ -1,25 +1,44 @@
--- The row of half-planes that say what the limits say is the paper's row: the two tests of a front load are the same.
--- Assumes nothing.
-use mathlib.Core.Path.{_≡_, sym, ap, _∙_, fun-ext}
-use mathlib.Core.Bool.{Bool, _&&_}
-use mathlib.Core.List.{List}
-use Prim.Native.Nat.{ℕ}
+-- The row of the steps that keep every limit with every part of the water is the paper's row: the two tests of a front load are
+-- the same. Assumes nothing.
+use mathlib.Core.Path.{_≡_, refl, sym, ap, _∙_}
+use mathlib.Core.Bool.{Bool, true, false, _&&_, and-assoc}
+use Prim.Native.Nat.{ℕ, _*_, _/_, _%_, _≤_, _<_}
+use native.Mathlib.Nat.{div-add-mod'}
+use native.Mathlib.Omega.{arith}
+use lib.Dec.{leb, eqb}
+use borrow.Author.Tests.{eqb-true}
+use Rattle.laws.specs.Tests.{left, span-hi}
+use Rattle.paper.specs.declared.Row.{Row}
+use Rattle.paper.specs.declared.Row.the-variants.{Range, Blank}
 use Rattle.paper.specs.declared.Sheet.{Sheet}
 use Rattle.paper.specs.Record.{Balance}
 use Rattle.paper.specs.Rows.{keepsAt, upTo, isStep, keeps, rowOf, row}
-use Rattle.planes.specs.declared.HalfPlane.{HalfPlane}
-use Rattle.planes.specs.Plane.{allHold, kept}
+use Rattle.paper.specs.Placard.{RowFits}
+use Rattle.planes.proofs.Searches.{found, row-of-same}
 use Rattle.planes.proofs.Rows.{keeps-is}
+use Rattle.solver.specs.declared.Span.{Span}
+use Rattle.solver.specs.Span.{within, stepIn}
+use Rattle.limits.specs.Seats.{inSeat, AllOf}
 
-module _ (s : Sheet) (b : Balance) (r w : ℕ) (ls : List HalfPlane) (same : (p v : ℕ) → keepsAt s b r p v ≡ allHold ls p v) where
+module _ (s : Sheet) (b : Balance) (r w : ℕ) (x : Span) (all : AllOf s b r w x) where
   abbrev step : ℕ
   step = s .front .step
 
-  kept-keeps : (p : ℕ) → kept step (s .least) (s .front .most) w ls p ≡ keeps s b r w p
-  unfolding kept isStep
-  kept-keeps p =
-      ap (λ (q : ℕ → Bool). isStep s p && upTo q w) (fun-ext (λ v. sym (same p v))) ∙ sym (keeps-is s b r w p)
+  by-step : (p : ℕ) (t : Bool) → eqb (p % step) 0 ≡ t → stepIn step x p ≡ (isStep s p && upTo (keepsAt s b r p) w)
+  unfolding isStep
+  by-step p true e =
+      let d : p / step * step ≡ p = omega (arith, div-add-mod' p step, eqb-true (p % step) 0 e) in
+      let m : within x (p / step) ≡ ((leb (s .least) p && leb p (s .front .most)) && upTo (keepsAt s b r p) w) = rw d at (all (p / step)) in
+      rw (e, m)
+  by-step p false e = rw e
 
-  pub solved : rowOf (kept step (s .least) (s .front .most) w ls) (s .front .most) ≡ row s b r w
+  pub solved : rowOf (stepIn step x) (s .front .most) ≡ row s b r w
   unfolding row
-  solved = ap (λ (q : ℕ → Bool). rowOf q (s .front .most)) (fun-ext kept-keeps)
+  solved =
+      row-of-same (stepIn step x) (keeps s b r w) (s .front .most)
+      (λ p h. by-step p (eqb (p % step) 0) refl ∙ sym (keeps-is s b r w p))
+
+-- both ends of a row fit their fields
+pub row-fits : (y : Row) (q : ℕ → Bool) (n : ℕ) → n ≤ 500000 → y ≡ rowOf q n → RowFits y
+row-fits (Range lo hi) q n h e = let f = found q n lo hi (sym e) in (omega (arith, f .2), omega (arith, f .3))
+row-fits Blank q n h e = tt

@@ -1,22 +1,23 @@
 // A row of the placard: the smallest and the largest front load that keeps every limit beside a rear load and water.
+use aboard::Laden;
+use limits::Seat;
 use paper::Row;
 use paper::Sheet;
-use planes::HalfPlane;
-use planes::LINES;
+use solver::Span;
 ghost use mathlib.Core.Path.{_≡_};
-ghost use Prim.Native.Nat.{ℕ, _≤_};
-ghost use Rattle.laws.specs.Lists.{Each};
+ghost use Prim.Native.Nat.{ℕ};
 ghost use Rattle.paper.specs.Record.{Balance};
 ghost use Rattle.paper.specs.Rows as rows;
+ghost use Rattle.paper.specs.Placard.{RowFits};
 ghost use Rattle.paper.specs.Refusals.{firstNumber, sheetFaults};
-ghost use Rattle.planes.specs.Plane.{allHold, Small};
+ghost use Rattle.aboard.specs.Aboard.{Beside, Room};
+ghost use Rattle.limits.specs.Seats.{SeatOf, Seated, NoneOf};
 
-// The row beside some water, where the half-planes say what the limits say beside a rear load: a fixed number of operations
-// whatever the loads.
-pub fn row(s: Sheet, limits: [HalfPlane; LINES], water: u64) -> Row
-    requires { ⌜ (firstNumber (sheetFaults s) ≡ 0) × (water ≤ 2000000) × Each Small limits ⌝ }
-    ensures { λ x. ⌜ ((b : Balance) (rear : ℕ) → ((p v : ℕ) → rows.keepsAt s b rear p v ≡ allHold limits p v) → x ≡ rows.row s b rear water) ⌝ }
+// The row of what is aboard, where a span holds the steps that keep every limit beside its rear load with none of the water: a
+// fixed number of operations whatever the loads.
+pub fn row(s: Sheet, q: Seat, span: Span, x: Laden) -> Row
+    requires { ⌜ (firstNumber (sheetFaults s) ≡ 0) × SeatOf s q × Room 256 x × Seated s span ⌝ }
+    ensures { λ y. ⌜ RowFits y × ((b : Balance) (rear w : ℕ) → Beside s b rear w x → NoneOf s b rear span → y ≡ rows.row s b rear w) ⌝ }
 {
-    let front = s.front;
-    solver::find_row(front.step, s.least, front.most, water, limits)
+    solver::row_of(limits::with_all(s, q, span, x), s.front.step)
 }

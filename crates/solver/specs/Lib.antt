@@ -1,2 +1,2 @@
--- Loads in a span.
+-- Steps in a span.
 pub mod Span

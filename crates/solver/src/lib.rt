@@ -1,43 +1,40 @@
-// The front loads that keep every limit: each half-plane is solved for the load by one division, at the end of the water that
-// leaves less.
+// How many steps of front load keep a limit: each limit is solved for the number of steps by one division. So what is found is a
+// step, and nothing is rounded afterwards.
+use laws::Sides;
 use paper::Row;
-use planes::HalfPlane;
-use planes::LINES;
 ghost use mathlib.Core.Path.{_≡_};
 ghost use mathlib.Core.Bool.{_&&_, true};
 ghost use Prim.Native.Nat.{ℕ, _+_, _*_, _^_, _<_, _≤_};
 ghost use lib.Dec.{leb};
-ghost use Rattle.laws.specs.Lists.{Each};
-ghost use Rattle.paper.specs.Rows.{upTo, rowOf};
-ghost use Rattle.planes.specs.Plane.{holds, kept, Small};
-ghost use Rattle.solver.specs.Span.{within, multiple};
+ghost use Rattle.paper.specs.Rows.{rowOf};
+ghost use Rattle.solver.specs.Span.{within, stepIn};
 
-// The loads from lo to hi; none where hi is below lo.
-struct Span {
-    lo: u64,
-    hi: u64,
+// The numbers of steps from lo to hi; none where hi is below lo.
+pub struct Span {
+    pub lo: u64,
+    pub hi: u64,
 }
 
 // The least number of bs that makes x or more.
-fn ceil_div(x: u64, b: u64) -> u64
+pub fn ceil_div(x: u64, b: u64) -> u64
     requires { ⌜ 0 < b ⌝ }
     ensures { λ r. ⌜ ((q : ℕ) → (r ≤ q → x ≤ q * b) × (x ≤ q * b → r ≤ q)) ⌝ }
 {
     if x == 0 { 0 } else { (x - 1) / b + 1 }
 }
 
-// The part of a span whose loads P make alpha + beta * P at least gamma + delta * P.
-fn narrow(s: Span, alpha: u64, beta: u64, gamma: u64, delta: u64) -> Span
-    ensures { λ r. ⌜ ((p : ℕ) → within r p ≡ (within s p && leb (gamma + delta * p) (alpha + beta * p))) ⌝ }
+// The part of a span whose numbers k make at.up + each.up * k at least at.down + each.down * k.
+pub fn narrow(s: Span, at: Sides, each: Sides) -> Span
+    ensures { λ r. ⌜ ((k : ℕ) → within r k ≡ (within s k && leb (at .down + each .down * k) (at .up + each .up * k))) ⌝ }
 {
-    if delta <= beta {
-        if gamma <= alpha {
+    if each.down <= each.up {
+        if at.down <= at.up {
             return s;
         }
-        if beta == delta {
+        if each.up == each.down {
             return Span { lo: 1, hi: 0 };
         }
-        let least = ceil_div(gamma - alpha, beta - delta);
+        let least = ceil_div(at.down - at.up, each.up - each.down);
         if least <= s.lo {
             return s;
         }
@@ -46,62 +43,24 @@ fn narrow(s: Span, alpha: u64, beta: u64, gamma: u64, delta: u64) -> Span
             hi: s.hi,
         };
     }
-    if alpha < gamma {
+    if at.up < at.down {
         return Span { lo: 1, hi: 0 };
     }
-    let most = (alpha - gamma) / (delta - beta);
+    let most = (at.up - at.down) / (each.down - each.up);
     if s.hi <= most {
         return s;
     }
     Span { lo: s.lo, hi: most }
 }
 
-// The part of a span whose loads keep a half-plane with every part of the water aboard: none of it decides where water makes
-// room, else all of it.
-fn narrow_wet(s: Span, l: HalfPlane, w: u64) -> Span
-    requires { ⌜ (w < 2 ^ 30) × Small l ⌝ }
-    ensures { λ r. ⌜ ((p : ℕ) → within r p ≡ (within s p && upTo (holds l p) w)) ⌝ }
+// The row of the loads whose number of steps is in a span: the first and the last of them.
+pub fn row_of(s: Span, step: u64) -> Row
+    requires { ⌜ (0 < step) × ((k : ℕ) → within s k ≡ true → k * step < 2 ^ 60) ⌝ }
+    ensures { λ r. ⌜ ((n : ℕ) → ((k : ℕ) → within s k ≡ true → k * step ≤ n) → r ≡ rowOf (stepIn step s) n) ⌝ }
 {
-    if l.gamma1 <= l.alpha1 {
-        return narrow(s, l.alpha0, l.beta, l.gamma0, l.delta);
-    }
-    narrow(
-        s,
-        l.alpha0 + w * l.alpha1,
-        l.beta,
-        l.gamma0 + w * l.gamma1,
-        l.delta,
-    )
-}
-
-// The multiples of f in a span: the first and the last of them.
-fn round(s: Span, f: u64) -> Row
-    requires { ⌜ 0 < f ⌝ }
-    ensures { λ r. ⌜ ((n : ℕ) → ((p : ℕ) → within s p ≡ true → p ≤ n) → r ≡ rowOf (multiple f s) n) ⌝ }
-{
-    let least = ceil_div(s.lo, f);
-    let most = s.hi / f;
-    if least <= most {
-        Row::Range(least * f, most * f)
+    if s.lo <= s.hi {
+        Row::Range(s.lo * step, s.hi * step)
     } else {
         Row::Blank
     }
-}
-
-// The row of the multiples of f from least to most that keep every half-plane with every part of the water w aboard.
-pub fn find_row(f: u64, least: u64, most: u64, w: u64, limits: [HalfPlane; LINES]) -> Row
-    requires { ⌜ (0 < f) × (w < 2 ^ 30) × Each Small limits ⌝ }
-    ensures { λ r. ⌜ r ≡ rowOf (kept f least most w limits) most ⌝ }
-{
-    let s = Span {
-        lo: least,
-        hi: most,
-    };
-    let s = narrow_wet(s, limits[0], w);
-    let s = narrow_wet(s, limits[1], w);
-    let s = narrow_wet(s, limits[2], w);
-    let s = narrow_wet(s, limits[3], w);
-    let s = narrow_wet(s, limits[4], w);
-    let s = narrow_wet(s, limits[5], w);
-    round(s, f)
 }

@@ -18,12 +18,12 @@
 use crate::paper::{Call, Centre, Change, Counts, Paired, Sheet, Weighing};
 
 /// Half grams in a gram.
-const HALVES: i64 = 2;
+pub(crate) const HALVES: i64 = 2;
 
 const WEIGHT: u64 = 2_000_000;
 const ARM: i64 = 2_000_000;
 const LOAD: u64 = 500_000;
-const MOST_ROWS: u64 = 256;
+pub(crate) const MOST_ROWS: u64 = 256;
 const MOST_ENTRIES: u8 = 64;
 
 /// Bytes of the length field, and of all that stands before the entries; where
@@ -35,20 +35,20 @@ const VERSION: u8 = 2;
 /// Bytes of an entry with its kind byte.
 const WEIGHING: usize = 22;
 const SHEET: usize = 61;
-const CHANGE: usize = 10;
+pub(crate) const CHANGE: usize = 10;
 const PAIRED: usize = 30;
 /// Bytes of a line and of one of its fields.
-const LINE: usize = 36;
-const FIELD: usize = 8;
+pub(crate) const LINE: usize = 36;
+pub(crate) const FIELD: usize = 8;
 
 /// An accepted call, or the number of its refusal.
-type Answer<T> = Result<T, u64>;
+pub(crate) type Answer<T> = Result<T, u64>;
 
 // ---- The entries and their conditions ----
 
 /// G, M and n of the last weighing and the changes behind it, in half grams.
 #[derive(Clone, Copy)]
-struct Sums {
+pub(crate) struct Sums {
     g: i64,
     m: i64,
     n: i64,
@@ -96,7 +96,9 @@ fn distances(a: i64, b: u64) -> Answer<()> {
     }
 }
 
-/// A weighing's sums; refused with 1, 2 or 3.
+/// A weighing's sums; refused with 1, 2 or 3. Inlined, so that a file's fields are
+/// tested in registers.
+#[inline(always)]
 fn weigh(w: &Weighing) -> Answer<Sums> {
     let g = total(w.m, w.p, w.q)?;
     distances(w.a, w.b)?;
@@ -111,7 +113,8 @@ fn weigh(w: &Weighing) -> Answer<Sums> {
     })
 }
 
-/// A paired weighing's sums; refused with 1, 2 or 3.
+/// A paired weighing's sums; refused with 1, 2 or 3. Inlined as a weighing is.
+#[inline(always)]
 fn pair(x: &Paired) -> Answer<Sums> {
     let first = total(x.m, x.p, x.q)?;
     let second = total(x.m, x.p2, x.q2)?;
@@ -165,18 +168,18 @@ fn waters(s: &Sheet) -> u64 {
 }
 
 /// The sums after a change; refused with 7, 2, 6 or 3.
-fn change(before: Option<Sums>, change: &Change) -> Answer<Sums> {
+pub(crate) fn change(before: Option<Sums>, change: &Change) -> Answer<Sums> {
     let before = before.ok_or(7u64)?;
     if !is_arm(change.arm) {
         return Err(2);
     }
-    let c = change.c;
-    if c == 0 || c.unsigned_abs() > WEIGHT || change.flag > 1 {
+    let (c, most) = (change.c, WEIGHT as i64);
+    if c == 0 || !(-most..=most).contains(&c) || change.flag > 1 {
         return Err(6);
     }
     let c = HALVES * c;
     let g = before.g + c;
-    if !(HALVES..=HALVES * WEIGHT as i64).contains(&g) {
+    if !(HALVES..=HALVES * most).contains(&g) {
         return Err(6);
     }
     let n = before.n + c * change.flag as i64;
@@ -233,7 +236,7 @@ fn sheet_from(bytes: &[u8; SHEET]) -> Sheet {
     }
 }
 
-fn change_from(bytes: &[u8; CHANGE]) -> Change {
+pub(crate) fn change_from(bytes: &[u8; CHANGE]) -> Change {
     Change {
         c: signed(bytes, 1),
         arm: signed(bytes, 5),
@@ -318,26 +321,48 @@ fn paired_bytes(x: &Paired) -> [u8; PAIRED] {
 }
 
 /// What one pass over a file tells of its record.
-struct Record {
+pub(crate) struct Record {
     /// Bytes of the whole file.
-    length: usize,
+    pub(crate) length: usize,
     /// Its version, 1 or 2.
     version: u8,
     /// Entries that stand.
-    count: u8,
+    pub(crate) count: u8,
     /// Where the last entry begins.
-    last: usize,
+    pub(crate) last: usize,
     /// G, M and n, where something was weighed.
-    sums: Option<Sums>,
-    /// The sheet in force.
-    sheet: Option<Sheet>,
+    pub(crate) sums: Option<Sums>,
+    /// Where the sheet in force begins, if there is one.
+    sheet: Option<usize>,
 }
 
 impl Record {
+    /// A record of no entries yet, by the head of the file at the front of a
+    /// buffer, and the bytes of its entries.
+    pub(crate) fn open(buffer: &[u8]) -> Option<(Record, &[u8])> {
+        let head = buffer.first_chunk::<HEAD>()?;
+        let length = LENGTH.checked_add(unsigned(head, 0) as usize)?;
+        let entries = buffer.get(HEAD..length)?;
+        let [_, _, _, _, version, count] = *head;
+        if !(1..=VERSION).contains(&version) || count > MOST_ENTRIES {
+            return None;
+        }
+        let record = Record {
+            length,
+            version,
+            count,
+            last: HEAD,
+            sums: None,
+            sheet: None,
+        };
+        Some((record, entries))
+    }
+
     /// Takes in the entry at the front of `rest`, tested as its call tests it,
     /// and gives what stands behind it. The count is at most 64, so that no
-    /// entry is refused with 9.
-    fn take<'a>(&mut self, rest: &'a [u8]) -> Option<&'a [u8]> {
+    /// entry is refused with 9. Inlined, so that a walk has the record in registers.
+    #[inline(always)]
+    pub(crate) fn take<'a>(&mut self, rest: &'a [u8]) -> Option<&'a [u8]> {
         match rest.first()? {
             1 => {
                 let (entry, rest) = rest.split_first_chunk()?;
@@ -346,9 +371,8 @@ impl Record {
             }
             2 => {
                 let (entry, rest) = rest.split_first_chunk()?;
-                let sheet = sheet_from(entry);
-                install(&sheet).ok()?;
-                self.sheet = Some(sheet);
+                install(&sheet_from(entry)).ok()?;
+                self.sheet = Some(self.last);
                 Some(rest)
             }
             3 => {
@@ -373,23 +397,9 @@ fn record(buffer: &[u8]) -> Answer<Record> {
 
 /// Walks the entries; none where the front of the buffer is no file.
 fn walk(buffer: &[u8]) -> Option<Record> {
-    let head = buffer.first_chunk::<HEAD>()?;
-    let length = LENGTH.checked_add(unsigned(head, 0) as usize)?;
-    let mut rest = buffer.get(HEAD..length)?;
-    let [_, _, _, _, version, count] = *head;
-    if !(1..=VERSION).contains(&version) || count > MOST_ENTRIES {
-        return None;
-    }
-    let mut record = Record {
-        length,
-        version,
-        count,
-        last: HEAD,
-        sums: None,
-        sheet: None,
-    };
-    for _ in 0..count {
-        record.last = length - rest.len();
+    let (mut record, mut rest) = Record::open(buffer)?;
+    for _ in 0..record.count {
+        record.last = record.length - rest.len();
         rest = record.take(rest)?;
     }
     rest.is_empty().then_some(record)
@@ -427,48 +437,60 @@ pub fn check(buffer: &[u8]) -> u64 {
 /// file afterwards; else the file is changed and the number is 0. Reading back
 /// asks nothing of the buffer but its length.
 pub fn call(buffer: &mut [u8], call: &Call) -> u64 {
-    let answer = match call {
-        Call::Weigh(w) => add_weighing(buffer, w),
-        Call::Pair(x) => add_pair(buffer, x),
-        Call::Install(s) => add_sheet(buffer, s),
-        Call::Change(c) => add_change(buffer, c),
-        Call::Undo => undo(buffer),
-        Call::Read(bytes) => read(buffer, bytes),
+    call_by(record, buffer, call)
+}
+
+/// The same by any reader of the record in a buffer.
+pub(crate) fn call_by(
+    record: impl Fn(&[u8]) -> Answer<Record>,
+    buffer: &mut [u8],
+    call: &Call,
+) -> u64 {
+    let read = match call {
+        Call::Read(bytes) => record(bytes),
+        _ => record(buffer),
     };
+    let answer = read.and_then(|record| match call {
+        Call::Weigh(w) => add_weighing(buffer, &record, w),
+        Call::Pair(x) => add_pair(buffer, &record, x),
+        Call::Install(s) => add_sheet(buffer, &record, s),
+        Call::Change(c) => add_change(buffer, &record, c),
+        Call::Undo => undo(buffer, &record),
+        Call::Read(bytes) => replace(buffer, bytes, &record),
+    });
     answer.err().unwrap_or(0)
 }
 
-fn add_weighing(buffer: &mut [u8], w: &Weighing) -> Answer<()> {
-    let record = open_record(buffer)?;
+fn add_weighing(buffer: &mut [u8], record: &Record, w: &Weighing) -> Answer<()> {
+    has_place(record)?;
     weigh(w)?;
-    append(buffer, &record, &weighing_bytes(w))
+    append(buffer, record, &weighing_bytes(w))
 }
 
-fn add_pair(buffer: &mut [u8], x: &Paired) -> Answer<()> {
-    let record = open_record(buffer)?;
+fn add_pair(buffer: &mut [u8], record: &Record, x: &Paired) -> Answer<()> {
+    has_place(record)?;
     pair(x)?;
-    append(buffer, &record, &paired_bytes(x))
+    append(buffer, record, &paired_bytes(x))
 }
 
-fn add_sheet(buffer: &mut [u8], s: &Sheet) -> Answer<()> {
-    let record = open_record(buffer)?;
+fn add_sheet(buffer: &mut [u8], record: &Record, s: &Sheet) -> Answer<()> {
+    has_place(record)?;
     install(s)?;
-    append(buffer, &record, &sheet_bytes(s))
+    append(buffer, record, &sheet_bytes(s))
 }
 
-fn add_change(buffer: &mut [u8], c: &Change) -> Answer<()> {
-    let record = open_record(buffer)?;
+fn add_change(buffer: &mut [u8], record: &Record, c: &Change) -> Answer<()> {
+    has_place(record)?;
     change(record.sums, c)?;
-    append(buffer, &record, &change_bytes(c))
+    append(buffer, record, &change_bytes(c))
 }
 
-/// A record with a place for one more entry; refused with 12 or 9.
-fn open_record(buffer: &[u8]) -> Answer<Record> {
-    let record = record(buffer)?;
+/// Whether there is a place for one more entry; refused with 9.
+fn has_place(record: &Record) -> Answer<()> {
     if record.count == MOST_ENTRIES {
         return Err(9);
     }
-    Ok(record)
+    Ok(())
 }
 
 /// Puts an accepted entry behind the file; refused with 11.
@@ -481,17 +503,16 @@ fn append(buffer: &mut [u8], record: &Record, entry: &[u8]) -> Answer<()> {
 }
 
 /// Takes the last entry back: its bytes stay, behind the shorter file.
-fn undo(buffer: &mut [u8]) -> Answer<()> {
-    let record = record(buffer)?;
+fn undo(buffer: &mut [u8], record: &Record) -> Answer<()> {
     let count = record.count.checked_sub(1).ok_or(10u64)?;
     set_head(buffer, record.last, count);
     Ok(())
 }
 
-/// Reads a file back: 12 where the bytes are not exactly a file, then 11. What it
-/// leaves is of version 2.
-fn read(buffer: &mut [u8], bytes: &[u8]) -> Answer<()> {
-    if record(bytes)?.length != bytes.len() {
+/// Reads a file back, with the record at its front: 12 where the bytes are not
+/// exactly a file, then 11. What it leaves is of version 2.
+fn replace(buffer: &mut [u8], bytes: &[u8], record: &Record) -> Answer<()> {
+    if record.length != bytes.len() {
         return Err(12);
     }
     let front = buffer.get_mut(..bytes.len()).ok_or(11u64)?;
@@ -503,13 +524,20 @@ fn read(buffer: &mut [u8], bytes: &[u8]) -> Answer<()> {
 /// The empty centre of gravity, its total and moment in half grams; refused with
 /// 12 or 7.
 pub fn centre(buffer: &[u8]) -> Result<Centre, u64> {
-    let Sums { g, m, .. } = record(buffer)?.sums.ok_or(7u64)?;
-    Ok(Centre {
-        total: g as u64,
-        moment: m,
-        // Halves towards the tail: half a unit more, rounded down.
-        centre: (2 * m + g).div_euclid(2 * g),
-    })
+    record(buffer)?.centre()
+}
+
+impl Record {
+    /// Refused with 7.
+    pub(crate) fn centre(&self) -> Answer<Centre> {
+        let Sums { g, m, .. } = self.sums.ok_or(7u64)?;
+        Ok(Centre {
+            total: g as u64,
+            moment: m,
+            // Halves towards the tail: half a unit more, rounded down.
+            centre: (2 * m + g).div_euclid(2 * g),
+        })
+    }
 }
 
 // ---- A row ----
@@ -520,56 +548,62 @@ pub fn centre(buffer: &[u8]) -> Result<Centre, u64> {
 /// The factor is the same for all rows; only the room depends on rear load and
 /// water. So a row takes three divisions: the weights, S ≥ FWD·T and the safe
 /// aft limit.
-struct Limits {
+pub(crate) struct Limits {
     /// Front steps between the least and the greatest front load; 0 is none of
     /// them, since somebody must be in the seat.
-    steps: Steps,
+    pub(crate) steps: Steps,
     /// The front step in grams.
-    step: i64,
+    pub(crate) step: i64,
     /// The same in half grams, which is the factor of the weights.
-    factor: i64,
+    pub(crate) factor: i64,
     /// What DRY and NLP leave for both loads.
-    dry: i64,
+    pub(crate) dry: i64,
     /// What WET leaves for both loads and the water.
-    wet: i64,
+    pub(crate) wet: i64,
     /// S ≥ FWD·T.
-    forward: Line,
+    pub(crate) forward: Line,
     /// 20·S ≤ (19·AFT + FWD)·T.
-    aft: Line,
+    pub(crate) aft: Line,
 }
 
 /// factor·k ≤ room + r·rear + v·water, with r and v in half grams.
-struct Line {
-    factor: i64,
-    room: i64,
-    rear: i64,
-    water: i64,
+#[derive(Clone, Copy)]
+pub(crate) struct Line {
+    pub(crate) factor: i64,
+    pub(crate) room: i64,
+    pub(crate) rear: i64,
+    pub(crate) water: i64,
 }
 
 impl Line {
     /// The least room for any water from 0 to w. It changes evenly with the
     /// water and the factor does not, so that one of the ends is the tightest.
-    fn room(&self, r: i64, w: i64) -> i64 {
+    pub(crate) fn room(&self, r: i64, w: i64) -> i64 {
         self.room + r * self.rear + (w * self.water).min(0)
     }
 }
 
 /// The numbers of front steps from low to high; none where low > high.
 #[derive(Clone, Copy)]
-struct Steps {
-    low: i64,
-    high: i64,
+pub(crate) struct Steps {
+    pub(crate) low: i64,
+    pub(crate) high: i64,
 }
 
 impl Steps {
-    /// Keeps those with factor·k ≤ room. A negative factor turns the division's
-    /// answer into a least number; a factor of 0 keeps all or none.
-    fn limit(&mut self, factor: i64, room: i64) {
+    /// Keeps those with factor·k ≤ room.
+    pub(crate) fn limit(&mut self, factor: i64, room: i64) {
+        self.bound(factor, room.div_euclid(factor.abs().max(1)));
+    }
+
+    /// The same by the room over the size of the factor, rounded down. A negative
+    /// factor makes it a least number; a factor of 0 keeps all or none.
+    pub(crate) fn bound(&mut self, factor: i64, quotient: i64) {
         if factor > 0 {
-            self.high = self.high.min(room.div_euclid(factor));
+            self.high = self.high.min(quotient);
         } else if factor < 0 {
-            self.low = self.low.max(-room.div_euclid(-factor));
-        } else if room < 0 {
+            self.low = self.low.max(-quotient);
+        } else if quotient < 0 {
             // The least number is never negative.
             self.high = -1;
         }
@@ -630,7 +664,7 @@ impl Limits {
 const BLANK: [u8; LINE] = *b"0000.000 0000.000 -------- --------\n";
 
 /// Four digits of kilograms, a point and three of grams.
-fn field(weight: u32) -> [u8; FIELD] {
+pub(crate) fn field(weight: u32) -> [u8; FIELD] {
     let digit = |unit: u32| b'0' + (weight / unit % 10) as u8;
     [
         digit(1_000_000),
@@ -650,18 +684,48 @@ fn set_field(line: &mut [u8; LINE], index: usize, text: [u8; FIELD]) {
     line[at..at + FIELD].copy_from_slice(&text);
 }
 
+/// What a placard is made of, and its lines, which are still to be written.
+pub(crate) struct Page<'a> {
+    pub(crate) sheet: Sheet,
+    pub(crate) limits: Limits,
+    /// Rows beside each rear load.
+    pub(crate) waters: usize,
+    pub(crate) lines: &'a mut [[u8; LINE]],
+}
+
+impl Record {
+    /// The sheet in force, from the buffer that the record was read from.
+    fn sheet_in(&self, buffer: &[u8]) -> Option<Sheet> {
+        let entry = buffer.get(self.sheet?..)?.first_chunk()?;
+        Some(sheet_from(entry))
+    }
+
+    /// The page of a placard at the front of `out`; refused with 7, 8 or 11.
+    pub(crate) fn page<'a>(&self, buffer: &[u8], out: &'a mut [u8]) -> Answer<Page<'a>> {
+        let sums = self.sums.ok_or(7u64)?;
+        let sheet = self.sheet_in(buffer).ok_or(8u64)?;
+        let waters = waters(&sheet) as usize;
+        let rows = rears(&sheet) as usize * waters;
+        let (lines, _) = out.get_mut(..rows * LINE).ok_or(11u64)?.as_chunks_mut();
+        Ok(Page {
+            sheet,
+            limits: Limits::new(&sums, &sheet),
+            waters,
+            lines,
+        })
+    }
+}
+
 /// The placard of the record in a buffer, written to the front of `out`; refused
 /// with 12, 7, 8 or 11.
 pub fn placard(buffer: &[u8], out: &mut [u8]) -> Result<Counts, u64> {
-    let record = record(buffer)?;
-    let sums = record.sums.ok_or(7u64)?;
-    let sheet = record.sheet.ok_or(8u64)?;
-    let waters = waters(&sheet) as usize;
-    let rows = rears(&sheet) as usize * waters;
-    let bytes = rows * LINE;
-    let (lines, _) = out.get_mut(..bytes).ok_or(11u64)?.as_chunks_mut();
-    let limits = Limits::new(&sums, &sheet);
-    let mut blank = 0;
+    let Page {
+        sheet,
+        limits,
+        waters,
+        lines,
+    } = record(buffer)?.page(buffer, out)?;
+    let (rows, mut blank) = (lines.len(), 0);
     for (i, lines) in lines.chunks_exact_mut(waters).enumerate() {
         let rear = i as u32 * sheet.rear_step as u32;
         let rear_field = field(rear);
@@ -679,5 +743,6 @@ pub fn placard(buffer: &[u8], out: &mut [u8]) -> Result<Counts, u64> {
             }
         }
     }
+    let bytes = rows * LINE;
     Ok(Counts { bytes, rows, blank })
 }

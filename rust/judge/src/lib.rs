@@ -14,7 +14,11 @@
 //!   It is slow and meant to be compared with the paper by eye.
 //! - [`direct`] gives the same answers by solving each limit for the front
 //!   load, on a record lent as its file at the front of a byte buffer. It
-//!   shares the types of [`paper`] and none of its functions.
+//!   shares the types of [`paper`] and none of its functions. It is simple, and
+//!   quick enough to answer where loops would take too long.
+//! - [`fast`] gives them as fast as safe Rust does, for the benchmark: it solves as
+//!   [`direct`] does, and carries what it can from row to row. It shares with
+//!   [`direct`] what makes no difference in time.
 //! - [`generate`] makes cases from a seed, so that any difference found can be
 //!   found again from two numbers.
 //! - [`run`] runs a case to its end by any of them, so that all that can be seen
@@ -31,6 +35,7 @@
 #![warn(missing_docs)]
 
 pub mod direct;
+pub mod fast;
 pub mod generate;
 pub mod paper;
 pub mod run;

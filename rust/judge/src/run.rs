@@ -3,6 +3,7 @@
 //! every byte.
 
 use crate::direct;
+use crate::fast;
 use crate::generate::Case;
 use crate::paper::{Call, Centre, Change, Counts, Journal, Paired, Sheet, Weighing};
 use std::marker::PhantomData;
@@ -163,6 +164,31 @@ impl Calls for Direct {
 
     fn placard(buffer: &[u8], out: &mut [u8]) -> Result<Counts, u64> {
         direct::placard(buffer, out)
+    }
+}
+
+/// The fast functions; a fresh record is begun the same way.
+pub struct Fast;
+
+impl Calls for Fast {
+    fn fresh(buffer: &mut [u8]) -> u64 {
+        direct::fresh(buffer)
+    }
+
+    fn check(buffer: &[u8]) -> u64 {
+        fast::check(buffer)
+    }
+
+    fn call(buffer: &mut [u8], call: &Call) -> u64 {
+        fast::call(buffer, call)
+    }
+
+    fn centre(buffer: &[u8]) -> Result<Centre, u64> {
+        fast::centre(buffer)
+    }
+
+    fn placard(buffer: &[u8], out: &mut [u8]) -> Result<Counts, u64> {
+        fast::placard(buffer, out)
     }
 }
 

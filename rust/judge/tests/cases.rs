@@ -3,9 +3,9 @@
 
 mod common;
 
-use common::Both;
-use judge::direct;
+use common::Sides;
 use judge::paper::{Call, Change, Journal, Paired, Sheet, Weighing};
+use judge::run::{Calls, Direct, Fast};
 
 fn weigh(m: u64, p: u64, q: u64, a: i64, b: u64, n: u64) -> Call {
     Call::Weigh(Weighing { m, p, q, a, b, n })
@@ -107,17 +107,17 @@ const LAX: Sheet = Sheet {
 
 /// Case G with other front steps and some ballast bars at the nose.
 fn astir_with_bars(bars: i64, front_step: u64) -> String {
-    let mut both = Both::new();
-    both.accept(&astir());
-    both.accept(&Call::Install(Sheet {
+    let mut sides = Sides::new();
+    sides.accept(&astir());
+    sides.accept(&Call::Install(Sheet {
         front_step,
         front_least: 0,
         ..ASTIR
     }));
     if bars != 0 {
-        both.accept(&change(bars, -100_000, 1));
+        sides.accept(&change(bars, -100_000, 1));
     }
-    both.placard_text()
+    sides.placard_text()
 }
 
 /// Smallest and largest front load of a placard's line.
@@ -128,9 +128,9 @@ fn range(placard: &str, line: usize) -> (&str, &str) {
 
 /// Total, moment and centre of one weighing, plain or paired.
 fn centre_of(call: &Call) -> (u64, i64, i64) {
-    let mut both = Both::new();
-    both.accept(call);
-    let centre = both.centre().unwrap();
+    let mut sides = Sides::new();
+    sides.accept(call);
+    let centre = sides.centre().unwrap();
     (centre.total, centre.moment, centre.centre)
 }
 
@@ -173,15 +173,15 @@ fn both_readings_stay() {
 #[test]
 fn half_a_gram_over_is_over() {
     let astir_again = |first, second| {
-        let mut both = Both::new();
-        both.accept(&pair(
+        let mut sides = Sides::new();
+        sides.accept(&pair(
             1,
             [first, 0],
             [second, 0],
             (63_334, 500_000, 140_000),
         ));
-        both.accept(&Call::Install(ASTIR));
-        both.placard_text()
+        sides.accept(&Call::Install(ASTIR));
+        sides.placard_text()
     };
     assert_eq!(
         range(&astir_again(288_000, 288_001), 0),
@@ -207,19 +207,19 @@ fn what_a_change_leaves_is_in_half_grams() {
         (1_999_999, 1_999_999, 1, 0),
         (1_999_998, 1_999_999, 1, 0),
     ] {
-        let mut both = Both::new();
-        both.accept(&pair(1, [first, 0], [second, 0], (0, 1, 0)));
-        assert_eq!(both.call(&change(c, 0, 0)), number, "{first} {second} {c}");
+        let mut sides = Sides::new();
+        sides.accept(&pair(1, [first, 0], [second, 0], (0, 1, 0)));
+        assert_eq!(sides.call(&change(c, 0, 0)), number, "{first} {second} {c}");
     }
 }
 
 #[test]
 fn g_prints_its_three_rows() {
-    let mut both = Both::new();
-    both.accept(&astir());
-    both.accept(&Call::Install(ASTIR));
+    let mut sides = Sides::new();
+    sides.accept(&astir());
+    sides.accept(&Call::Install(ASTIR));
     assert_eq!(
-        both.placard_text(),
+        sides.placard_text(),
         "0000.000 0000.000 0071.000 0092.000\n\
          0000.000 0050.000 0071.000 0092.000\n\
          0000.000 0100.000 -------- --------\n"
@@ -237,22 +237,22 @@ fn h_begins_at_64_kg() {
 
 #[test]
 fn i_is_blank() {
-    let mut both = Both::new();
-    both.accept(&astir());
-    both.accept(&Call::Install(Sheet {
+    let mut sides = Sides::new();
+    sides.accept(&astir());
+    sides.accept(&Call::Install(Sheet {
         front_arm: 41_625,
         ..ASTIR
     }));
-    assert_eq!(both.placard(9_216).unwrap().blank, 3);
+    assert_eq!(sides.placard(9_216).unwrap().blank, 3);
 }
 
 #[test]
 fn j_prints_three_rear_loads() {
-    let mut both = Both::new();
-    both.accept(&blanik());
-    both.accept(&Call::Install(BLANIK));
+    let mut sides = Sides::new();
+    sides.accept(&blanik());
+    sides.accept(&Call::Install(BLANIK));
     assert_eq!(
-        both.placard_text(),
+        sides.placard_text(),
         "0000.000 0000.000 0069.000 0110.000\n\
          0055.000 0000.000 0054.000 0109.000\n\
          0110.000 0000.000 0040.000 0080.000\n"
@@ -262,9 +262,11 @@ fn j_prints_three_rear_loads() {
 #[test]
 fn k_is_six_bytes() {
     assert_eq!(Journal::new().file(), [0, 0, 0, 2, 2, 0]);
-    let mut buffer = [9; 8];
-    assert_eq!(direct::fresh(&mut buffer), 0);
-    assert_eq!(buffer, [0, 0, 0, 2, 2, 0, 9, 9]);
+    for fresh in [Direct::fresh, Fast::fresh] {
+        let mut buffer = [9; 8];
+        assert_eq!(fresh(&mut buffer), 0);
+        assert_eq!(buffer, [0, 0, 0, 2, 2, 0, 9, 9]);
+    }
 }
 
 #[test]
@@ -297,19 +299,19 @@ fn the_safe_aft_limit_is_five_per_cent_inside() {
         ..ASTIR
     };
     for (behind, blank) in [(0, 0), (1, 1)] {
-        let mut both = Both::new();
-        both.accept(&weigh(1, 288_000, behind, 41_625, 1, 0));
-        both.accept(&Call::Install(sheet));
-        assert_eq!(both.placard(36).unwrap().blank, blank);
+        let mut sides = Sides::new();
+        sides.accept(&weigh(1, 288_000, behind, 41_625, 1, 0));
+        sides.accept(&Call::Install(sheet));
+        assert_eq!(sides.placard(36).unwrap().blank, blank);
     }
 }
 
 /// The lines of a glider of 200 kg, and how many of them are blank.
 fn lines_of(sheet: Sheet) -> (String, usize) {
-    let mut both = Both::new();
-    both.accept(&weigh(1, 200_000, 0, 0, 1, 100_000));
-    both.accept(&Call::Install(sheet));
-    (both.placard_text(), both.placard(9_216).unwrap().blank)
+    let mut sides = Sides::new();
+    sides.accept(&weigh(1, 200_000, 0, 0, 1, 100_000));
+    sides.accept(&Call::Install(sheet));
+    (sides.placard_text(), sides.placard(9_216).unwrap().blank)
 }
 
 /// Where 0 is a step the row begins at the next one, and is blank where there is
@@ -389,36 +391,36 @@ fn a_row_for_nobody_is_blank() {
 
 #[test]
 fn the_64th_and_the_65th_entry() {
-    let mut both = Both::new();
-    both.accept(&astir());
+    let mut sides = Sides::new();
+    sides.accept(&astir());
     for i in 1..64 {
-        both.accept(&change(if i % 2 == 1 { 500 } else { -500 }, -20_000, 0));
+        sides.accept(&change(if i % 2 == 1 { 500 } else { -500 }, -20_000, 0));
     }
     let pair = as_pair(&astir());
     for call in [astir(), pair.clone(), Call::Install(ASTIR), change(1, 0, 0)] {
-        assert_eq!(both.call(&call), 9);
+        assert_eq!(sides.call(&call), 9);
     }
-    both.accept(&Call::Undo);
-    both.accept(&pair);
-    assert_eq!(both.call(&pair), 9);
-    both.accept(&Call::Undo);
-    both.accept(&Call::Install(ASTIR));
-    assert_eq!(both.call(&change(1, 0, 0)), 9);
+    sides.accept(&Call::Undo);
+    sides.accept(&pair);
+    assert_eq!(sides.call(&pair), 9);
+    sides.accept(&Call::Undo);
+    sides.accept(&Call::Install(ASTIR));
+    assert_eq!(sides.call(&change(1, 0, 0)), 9);
     for _ in 0..64 {
-        both.accept(&Call::Undo);
+        sides.accept(&Call::Undo);
     }
-    assert_eq!(both.call(&Call::Undo), 10);
+    assert_eq!(sides.call(&Call::Undo), 10);
 }
 
 #[test]
 fn the_longest_file() {
-    let mut both = Both::new();
+    let mut sides = Sides::new();
     for _ in 0..64 {
-        both.accept(&Call::Install(ASTIR));
+        sides.accept(&Call::Install(ASTIR));
     }
-    let file = both.journal.file();
+    let file = sides.journal.file();
     assert_eq!(file.len(), 3_910);
-    assert_eq!(both.call(&Call::Read(file)), 0);
+    assert_eq!(sides.call(&Call::Read(file)), 0);
 }
 
 #[test]
@@ -440,50 +442,52 @@ fn rows_256_and_257() {
             water_step: 1,
             ..ASTIR
         };
-        let mut both = Both::new();
-        both.accept(&astir());
-        assert_eq!(both.call(&Call::Install(sheet)), number);
+        let mut sides = Sides::new();
+        sides.accept(&astir());
+        assert_eq!(sides.call(&Call::Install(sheet)), number);
         if number == 0 {
-            assert_eq!(both.placard(9_216).unwrap().rows, 256);
-            assert_eq!(both.placard(9_215), Err(11));
+            assert_eq!(sides.placard(9_216).unwrap().rows, 256);
+            assert_eq!(sides.placard(9_215), Err(11));
         }
     }
 }
 
 #[test]
 fn one_byte_too_few() {
-    let mut both = Both::new();
-    both.accept(&astir());
-    both.accept(&Call::Install(ASTIR));
-    assert_eq!(both.placard(107), Err(11));
-    assert_eq!(both.placard(108).unwrap().bytes, 108);
-    let file = both.journal.file();
+    let mut sides = Sides::new();
+    sides.accept(&astir());
+    sides.accept(&Call::Install(ASTIR));
+    assert_eq!(sides.placard(107), Err(11));
+    assert_eq!(sides.placard(108).unwrap().bytes, 108);
+    let file = sides.journal.file();
     let mut out = vec![7; file.len() - 1];
-    assert_eq!(both.journal.write(&mut out), Err(11));
+    assert_eq!(sides.journal.write(&mut out), Err(11));
     assert!(out.iter().all(|byte| *byte == 7));
-    let mut short = vec![7; file.len() - 1];
-    assert_eq!(direct::call(&mut short, &Call::Read(file)), 11);
-    assert!(short.iter().all(|byte| *byte == 7));
+    for call in [Direct::call, Fast::call] {
+        let mut short = vec![7; file.len() - 1];
+        assert_eq!(call(&mut short, &Call::Read(file.clone())), 11);
+        assert!(short.iter().all(|byte| *byte == 7));
+    }
 }
 
 /// The file of version 1 of a record without pairs is read, and none other.
 #[test]
 fn files_of_version_1() {
-    let mut both = Both::new();
-    both.accept(&astir());
-    both.accept(&Call::Install(ASTIR));
-    let (old, new) = (both.journal.file_as(1), both.journal.file());
+    let mut sides = Sides::new();
+    sides.accept(&astir());
+    sides.accept(&Call::Install(ASTIR));
+    let (old, new) = (sides.journal.file_as(1), sides.journal.file());
     assert_eq!((old.len(), &old[5..]), (new.len(), &new[5..]));
     for version in [0, 3, 4, 255] {
-        let file = both.journal.file_as(version);
-        assert_eq!(both.call(&Call::Read(file)), 12);
+        let file = sides.journal.file_as(version);
+        assert_eq!(sides.call(&Call::Read(file)), 12);
     }
-    let placard = both.placard_text();
-    both.accept(&Call::Read(old));
-    assert_eq!(both.buffer[..new.len()], new);
-    assert_eq!(both.placard_text(), placard);
-    both.accept(&as_pair(&astir()));
-    let (old, new) = (both.journal.file_as(1), both.journal.file());
-    assert_eq!(both.call(&Call::Read(old)), 12);
-    assert_eq!(both.call(&Call::Read(new)), 0);
+    let placard = sides.placard_text();
+    sides.accept(&Call::Read(old));
+    assert_eq!(sides.buffer()[..new.len()], new);
+    assert_eq!(sides.placard_text(), placard);
+    sides.accept(&as_pair(&astir()));
+    let (old, new) = (sides.journal.file_as(1), sides.journal.file());
+    assert_eq!(sides.call(&Call::Read(old)), 12);
+    assert_eq!(sides.call(&Call::Read(new)), 0);
 }

@@ -1,8 +1,8 @@
-//! The direct functions against the paper on generated cases.
+//! The direct and the fast functions against the paper on generated cases.
 
 use judge::generate::{case, Case};
 use judge::paper::{Call, Sheet};
-use judge::run::{Answers, By, Direct, Paper, Plate, Trial, WORK};
+use judge::run::{Answers, By, Direct, Fast, Paper, Plate, Trial, WORK};
 
 const CASES: u64 = 20_000;
 const SEED: u64 = 1;
@@ -58,22 +58,25 @@ impl Card2 {
     }
 }
 
-/// What the paper and the direct functions both answer, and the paper's record;
-/// the placard is none where plain loops would take too long.
+/// What the paper, the direct functions and the fast ones all answer, and the
+/// paper's record; the placard is none where plain loops would take too long.
 fn same(trial: &Trial, case: &Case) -> (Paper, Answers, Option<Plate>) {
     let (paper, expected) = trial.run::<Paper>();
     let (direct, given) = trial.run::<By<Direct>>();
-    assert_eq!(given, expected, "{case:?}");
+    assert_eq!(given, expected, "direct {case:?}");
+    let (fast, given) = trial.run::<By<Fast>>();
+    assert_eq!(given, expected, "fast {case:?}");
+    let plate = trial.placard(&direct);
+    assert_eq!(trial.placard(&fast), plate, "{case:?}");
     if paper.work() > WORK {
         return (paper, expected, None);
     }
-    let plate = trial.placard(&paper);
-    assert_eq!(trial.placard(&direct), plate, "{case:?}");
+    assert_eq!(trial.placard(&paper), plate, "{case:?}");
     (paper, expected, Some(plate))
 }
 
 #[test]
-fn direct_answers_as_the_paper_does() {
+fn all_answer_as_the_paper_does() {
     let mut numbers = Numbers::default();
     let (mut card_1, mut card_2) = (Card1::default(), Card2::default());
     let (mut compared, mut rows, mut blank) = (0, 0, 0);

@@ -3,9 +3,9 @@
 
 mod common;
 
-use common::Both;
-use judge::direct;
+use common::Sides;
 use judge::paper::{Call, Change, Paired, Sheet, Weighing};
+use judge::run::{Calls, Direct, Fast};
 
 const WEIGHING: Weighing = Weighing {
     m: 1,
@@ -53,9 +53,9 @@ const CHANGE: Change = Change {
 
 /// The number of a call on a record with one weighing.
 fn number(call: Call) -> u64 {
-    let mut both = Both::new();
-    both.accept(&Call::Weigh(WEIGHING));
-    both.call(&call)
+    let mut sides = Sides::new();
+    sides.accept(&Call::Weigh(WEIGHING));
+    sides.call(&call)
 }
 
 fn weigh(w: Weighing) -> u64 {
@@ -88,12 +88,12 @@ fn change(c: Change) -> u64 {
     number(Call::Change(c))
 }
 
-fn full() -> Both {
-    let mut both = Both::new();
+fn full() -> Sides {
+    let mut sides = Sides::new();
     for _ in 0..64 {
-        both.accept(&Call::Weigh(WEIGHING));
+        sides.accept(&Call::Weigh(WEIGHING));
     }
-    both
+    sides
 }
 
 #[test]
@@ -174,7 +174,7 @@ fn change_is_refused_in_the_order_9_7_2_6_3() {
         flag: 2,
     };
     assert_eq!(full().call(&Call::Change(c)), 9);
-    assert_eq!(Both::new().call(&Call::Change(c)), 7);
+    assert_eq!(Sides::new().call(&Call::Change(c)), 7);
     assert_eq!(change(c), 2);
     c.arm = -2_000_000;
     assert_eq!(change(c), 6);
@@ -435,79 +435,89 @@ fn change_arguments_of_any_size() {
 
 #[test]
 fn placard_and_centre_need_their_entries() {
-    let mut both = Both::new();
-    assert_eq!(both.centre(), Err(7));
-    assert_eq!(both.placard(0), Err(7));
-    both.accept(&Call::Install(SHEET));
-    assert_eq!(both.placard(0), Err(7));
-    both.accept(&Call::Undo);
-    both.accept(&Call::Weigh(WEIGHING));
-    assert_eq!(both.placard(0), Err(8));
-    both.accept(&Call::Install(SHEET));
-    assert_eq!(both.placard(0), Err(11));
+    let mut sides = Sides::new();
+    assert_eq!(sides.centre(), Err(7));
+    assert_eq!(sides.placard(0), Err(7));
+    sides.accept(&Call::Install(SHEET));
+    assert_eq!(sides.placard(0), Err(7));
+    sides.accept(&Call::Undo);
+    sides.accept(&Call::Weigh(WEIGHING));
+    assert_eq!(sides.placard(0), Err(8));
+    sides.accept(&Call::Install(SHEET));
+    assert_eq!(sides.placard(0), Err(11));
 }
 
 /// "G, M and n are those of the last weighing in the list and the changes
 /// behind it", also after taking back.
 #[test]
 fn the_last_weighing_counts() {
-    let mut both = Both::new();
-    both.accept(&Call::Weigh(WEIGHING));
-    both.accept(&Call::Change(CHANGE));
-    let before = both.centre();
+    let mut sides = Sides::new();
+    sides.accept(&Call::Weigh(WEIGHING));
+    sides.accept(&Call::Change(CHANGE));
+    let before = sides.centre();
     assert_eq!(before.unwrap().total, 602_000);
-    both.accept(&Call::Weigh(Weighing {
+    sides.accept(&Call::Weigh(Weighing {
         p: 250_000,
         ..WEIGHING
     }));
-    assert_eq!(both.centre().unwrap().total, 500_000);
-    both.accept(&Call::Pair(Paired {
+    assert_eq!(sides.centre().unwrap().total, 500_000);
+    sides.accept(&Call::Pair(Paired {
         p2: 250_001,
         ..PAIRED
     }));
-    assert_eq!(both.centre().unwrap().total, 550_001);
-    both.accept(&Call::Undo);
-    both.accept(&Call::Undo);
-    assert_eq!(both.centre(), before);
+    assert_eq!(sides.centre().unwrap().total, 550_001);
+    sides.accept(&Call::Undo);
+    sides.accept(&Call::Undo);
+    assert_eq!(sides.centre(), before);
 }
 
 #[test]
 fn a_lent_buffer() {
+    lend_a_buffer::<Direct>();
+    lend_a_buffer::<Fast>();
+}
+
+fn lend_a_buffer<C: Calls>() {
     let mut tiny = [9; 5];
-    assert_eq!(direct::fresh(&mut tiny), 11);
-    assert_eq!(direct::check(&tiny), 12);
-    assert_eq!(direct::call(&mut tiny, &Call::Undo), 12);
+    assert_eq!(C::fresh(&mut tiny), 11);
+    assert_eq!(C::check(&tiny), 12);
+    assert_eq!(C::call(&mut tiny, &Call::Undo), 12);
     assert_eq!(tiny, [9; 5]);
     // Just enough for a weighing; nothing fits behind it, and what the call
     // itself refuses comes before that.
     let mut buffer = [9; 28];
-    assert_eq!(direct::fresh(&mut buffer), 0);
-    assert_eq!(direct::call(&mut buffer, &Call::Weigh(WEIGHING)), 0);
+    assert_eq!(C::fresh(&mut buffer), 0);
+    assert_eq!(C::call(&mut buffer, &Call::Weigh(WEIGHING)), 0);
     let written = buffer;
-    assert_eq!(direct::call(&mut buffer, &Call::Change(CHANGE)), 11);
+    assert_eq!(C::call(&mut buffer, &Call::Change(CHANGE)), 11);
     let bad = Change { flag: 2, ..CHANGE };
-    assert_eq!(direct::call(&mut buffer, &Call::Change(bad)), 6);
+    assert_eq!(C::call(&mut buffer, &Call::Change(bad)), 6);
     assert_eq!(buffer, written);
     // Taking back leaves the entry's bytes where they were.
-    assert_eq!(direct::call(&mut buffer, &Call::Undo), 0);
+    assert_eq!(C::call(&mut buffer, &Call::Undo), 0);
     assert_eq!(buffer[..6], [0, 0, 0, 2, 2, 0]);
     assert_eq!(buffer[6..], written[6..]);
     // Bytes that are no file are refused before the room is looked at.
-    assert_eq!(direct::call(&mut tiny, &Call::Read(vec![0; 40])), 12);
+    assert_eq!(C::call(&mut tiny, &Call::Read(vec![0; 40])), 12);
     let file = written[..28].to_vec();
-    assert_eq!(direct::call(&mut tiny, &Call::Read(file)), 11);
+    assert_eq!(C::call(&mut tiny, &Call::Read(file)), 11);
 }
 
 /// A file of version 1 is taken as it is. The first call that changes it leaves
 /// one of version 2; a refused one leaves every byte.
 #[test]
 fn a_lent_buffer_of_version_1() {
-    let mut both = Both::new();
-    both.accept(&Call::Weigh(WEIGHING));
-    let mut lent = both.journal.file_as(1);
+    lend_a_buffer_of_version_1::<Direct>();
+    lend_a_buffer_of_version_1::<Fast>();
+}
+
+fn lend_a_buffer_of_version_1<C: Calls>() {
+    let mut sides = Sides::new();
+    sides.accept(&Call::Weigh(WEIGHING));
+    let mut lent = sides.journal.file_as(1);
     lent.resize(150, 9);
-    assert_eq!(direct::check(&lent), 0);
-    assert_eq!(direct::centre(&lent), both.centre());
+    assert_eq!(C::check(&lent), 0);
+    assert_eq!(C::centre(&lent), sides.centre());
     for call in [
         Call::Weigh(Weighing { m: 0, ..WEIGHING }),
         Call::Pair(Paired {
@@ -519,7 +529,7 @@ fn a_lent_buffer_of_version_1() {
         Call::Read(vec![0; 6]),
     ] {
         let mut after = lent.clone();
-        assert_ne!(direct::call(&mut after, &call), 0);
+        assert_ne!(C::call(&mut after, &call), 0);
         assert_eq!(after, lent);
     }
     let old = lent[..28].to_vec();
@@ -531,8 +541,8 @@ fn a_lent_buffer_of_version_1() {
         Call::Undo,
         Call::Read(old),
     ] {
-        let (mut after, mut journal) = (lent.clone(), both.journal.clone());
-        assert_eq!(direct::call(&mut after, &call), 0);
+        let (mut after, mut journal) = (lent.clone(), sides.journal.clone());
+        assert_eq!(C::call(&mut after, &call), 0);
         assert_eq!(journal.call(&call), 0);
         let file = journal.file();
         assert_eq!((after[4], &after[..file.len()]), (2, &file[..]));

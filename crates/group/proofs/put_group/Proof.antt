@@ -1,16 +1,24 @@
--- `group::put_group` meets its contract. The loop's invariant: the first k rows of the group are put, and their blank ones
--- counted, whatever the balance that the limits are those of. Assumes nothing.
+-- `group::put_group` meets its contract. The loop's invariant: what is aboard is the rear load and the water of k steps, and the
+-- first k rows of the group are put, and their blank ones counted, whatever the balance that the loop began with. Assumes nothing.
 use borrow.Author.Needs.{needs}
-use mathlib.Core.Path.{_≡_, refl, ap, _∙_}
+use mathlib.Core.Path.{_≡_, refl, sym, ap, _∙_}
 use Prim.Native.Nat.{ℕ, _+_, _*_, _-_, _≤_}
+use native.Mathlib.Nat.{add-mul, one-mul}
 use native.Mathlib.Omega.{arith}
+use lib.IntN.{pos, _+ℤ_}
 use lib.ListN.{length}
 use Rattle.laws.specs.Written.{written, length-written}
+use Rattle.laws.specs.Z.{is-nat, is-add, same}
+use Rattle.paper.specs.Units.{halfGrams}
 use Rattle.paper.specs.Record.{Balance}
-use Rattle.paper.specs.Rows.{keepsAt, rowCount}
+use Rattle.paper.specs.Rows.{rowCount}
 use Rattle.sheet.proofs.Accepted.{accepted-sheet}
+use Rattle.balance.specs.declared.Balance.{Balance as Carried}
 use Rattle.balance.specs.Balance.{plain}
-use Rattle.planes.specs.Plane.{allHold}
+use Rattle.planes.proofs.Lines.{half-is}
+use Rattle.aboard.specs.Aboard.{Beside, Room}
+use Rattle.aboard.proofs.Standing.{room-more, room-least}
+use Rattle.limits.specs.Seats.{NoneOf}
 use Rattle.line.proofs.Length.{length-line}
 use Rattle.group.specs.Numbered.{blanks, linesTo, blanksTo}
 use Rattle.group.proofs.Buffer.{water-in, row-in, line-in, group-room, rear-in, GroupTo, group-begun, group-more}
@@ -18,83 +26,155 @@ use Rattle.group.proofs.put_group.Statement.{statement}
 use Rattle.group.proofs.put_group.Tie as tie
 
 abbrev Inv-loop : tie.InvT-loop
-Inv-loop s j waters out₀ rear limits first none₀ k₀ out none k =
-    (k ≤ waters) × (none ≤ k) × (length out ≡ length out₀) × ((b : Balance) → ((p v : ℕ) → keepsAt s b rear p v ≡ allHold limits p v) → GroupTo s b first k none out₀ out)
+Inv-loop s t j waters out₀ rear x₀ span field first none₀ water₀ k₀ out x none water k =
+    (k ≤ waters) × (none ≤ k) × (length out ≡ length out₀) × (water ≡ k * s .water .step) × Room k x × ((b : Balance) → Beside s b rear 0 x₀ → Beside s b rear water x × (NoneOf s b rear span → GroupTo s b first k none out₀ out))
 
 abbrev μ-loop : tie.MeasureT-loop
-μ-loop s j waters out₀ rear limits first none₀ k₀ out none k = waters - k
+μ-loop s t j waters out₀ rear x₀ span field first none₀ water₀ k₀ out x none water k = waters - k
 
 -- the rows of the group are among the sheet's
 room : (c : tie.Start Inv-loop μ-loop) → c .args .j * c .args .waters + c .args .waters ≤ rowCount (c .args .s)
-room c = group-room (c .args .s) (c .args .waters) (c .pre .2) (c .args .j) (c .pre .3)
+room c = group-room (c .args .s) (c .args .waters) (c .pre .3) (c .args .j) (c .pre .4)
+
+-- the rear load is no more than the greatest
+rear-most : (c : tie.Start Inv-loop μ-loop) → c .args .j * c .args .s .rear .step ≤ 500000
+rear-most c = omega (arith, rear-in (c .args .s) (c .args .j) (c .pre .4), accepted-sheet (c .args .s) (c .pre .0) .ranges .rear)
+
+rows : (c : tie.Start Inv-loop μ-loop) → rowCount (c .args .s) ≤ 256
+rows c = accepted-sheet (c .args .s) (c .pre .0) .steps .rows
+
+-- the non-lifting weight with the rear load
+part-with : (b : Carried) (r : ℕ) → pos (b .nonlifting + 2 * r) ≡ plain b .nonLifting +ℤ halfGrams (pos r)
+part-with b r = same (is-nat (b .nonlifting + 2 * r)) (is-add (is-nat (b .nonlifting)) (half-is r)) (omega arith)
 
 mul-rear : tie.Need-mul-rear Inv-loop μ-loop
-mul-rear c = let b = c .before .before in omega (arith, rear-in (b .args .s) (b .args .j) (b .pre .3), accepted-sheet (b .args .s) (b .pre .0) .ranges .rear)
+mul-rear c = omega (arith, rear-most (c .before .before))
 
-limits-requires : tie.Need-limits-requires Inv-loop μ-loop
-limits-requires c κs =
-    let b = c .before .before in
-    let s = b .args .s in
-    (b .pre .0, b .pre .1, omega (arith, rear-in s (b .args .j) (b .pre .3), accepted-sheet s (b .pre .0) .ranges .rear))
+beside-requires : tie.Need-beside-requires Inv-loop μ-loop
+beside-requires c κs = let b = c .before .before in (b .pre .1 .arms .ranges, b .pre .2, rear-most b)
+
+mul-with-none : tie.Need-mul-with-none Inv-loop μ-loop
+mul-with-none c = omega (arith, rear-most (c .before .before .before))
+
+add-with-none : tie.Need-add-with-none Inv-loop μ-loop
+add-with-none c =
+    let b = c .before .before .before .before in
+    omega (arith, rear-most b, b .pre .2 .ranged .part, b .pre .2 .ranged .most)
+
+with-none-requires : tie.Need-with-none-requires Inv-loop μ-loop
+with-none-requires c κs =
+    let e = c .before in
+    let b = e .before .before .before in
+    (b .pre .0, b .pre .1 .seat, room-least 0 256 (e .beside .result) (omega arith) (e .beside .ensures .0))
+
+field-requires : tie.Need-field-requires Inv-loop μ-loop
+field-requires c κs = omega (arith, rear-most (c .before .before .before .before .before))
 
 mul-first : tie.Need-mul-first Inv-loop μ-loop
-mul-first c = omega (arith, room (c .before .before .before))
+mul-first c =
+    let b = c .before .before .before .before .before .before in
+    omega (arith, room b, rows b)
 
 loop-holds : tie.Need-loop-holds Inv-loop μ-loop
-loop-holds c = let a = c .before .before .before .args in (omega arith, omega arith, refl, λ b same. group-begun (a .s) b _ (a .out .now))
+loop-holds c =
+    let e = c .before .before .before in
+    let b = e .before .before .before in
+    let a = b .args in (
+      omega arith,
+      omega arith,
+      refl,
+      omega arith,
+      e .beside .ensures .0,
+      λ g h. (h, λ none. group-begun (a .s) g _ (a .out .now)),
+    )
 
-mul-water : tie.Need-mul-water Inv-loop μ-loop
-mul-water c =
-    let m = c .before .before in
-    let b = m .before .before .before .before in
-    omega (arith, water-in (b .args .s) (b .args .waters) (b .pre .2) (b .args .j) (m .loop .k) (c .before .loop-test .taken), accepted-sheet (b .args .s) (b .pre .0) .ranges .water)
+carried-requires : tie.Need-carried-requires Inv-loop μ-loop
+carried-requires c κs =
+    let m = c .before in
+    let b = m .before .before .before .before .before .before .before in
+    (room-least (m .loop .k) 256 (m .loop .x) (omega (arith, room b, rows b)) (m .loop .inv .4), b .pre .1 .share)
 
 add-put-row : tie.Need-add-put-row Inv-loop μ-loop
 add-put-row c =
-    let b = c .before .before .before .before .before .before in
-    omega (arith, room b)
+    let b = c .before .before .before .before .before .before .before .before .before in
+    omega (arith, room b, rows b)
 
 put-row-requires : tie.Need-put-row-requires Inv-loop μ-loop
 put-row-requires c κs =
     let i = c .before .before in
     let m = i .before in
-    let l = m .before in
-    let b = l .before .before .before in
-    let w = water-in (b .args .s) (b .args .waters) (b .pre .2) (b .args .j) (m .loop .k) (i .loop-test .taken) in (
+    let n = m .before .before in
+    let b = n .before .before .before .before .before in
+    let w = water-in (b .args .s) (b .args .waters) (b .pre .3) (b .args .j) (m .loop .k) (i .loop-test .taken) in (
       b .pre .0,
-      l .limits .ensures .1,
-      omega (arith, w, accepted-sheet (b .args .s) (b .pre .0) .ranges .water),
-      omega (arith, room b, b .pre .4, m .loop .inv .2),
+      b .pre .1,
+      n .with-none .ensures .0,
+      room-least (m .loop .k) 256 (m .loop .x) (omega (arith, room b, rows b)) (m .loop .inv .4),
+      omega (arith, w, m .loop .inv .3, accepted-sheet (b .args .s) (b .pre .0) .ranges .water),
+      omega (arith, room b, rows b),
+      omega (arith, room b, b .pre .5, m .loop .inv .2),
     )
 
 add-none : tie.Need-add-none Inv-loop μ-loop
-add-none c = omega (arith, c .before .before .put-row .ensures .0)
+add-none c =
+    let p = c .before .before in
+    let m = p .before .before .before .before in
+    let b = m .before .before .before .before .before .before .before in
+    omega (arith, p .put-row .ensures .0, m .loop .inv .1, room b, rows b)
+
+add-water : tie.Need-add-water Inv-loop μ-loop
+add-water c =
+    let i = c .before .before .before .before .before .before in
+    let m = i .before in
+    let b = m .before .before .before .before .before .before .before in
+    let w = water-in (b .args .s) (b .args .waters) (b .pre .3) (b .args .j) (m .loop .k) (i .loop-test .taken) in
+    let o = accepted-sheet (b .args .s) (b .pre .0) in
+    omega (arith, w, m .loop .inv .3, o .ranges .water, o .steps .water .1)
 
 add-k : tie.Need-add-k Inv-loop μ-loop
-add-k c = search needs
+add-k c =
+    let m = c .before .before .before .before .before .before .before in
+    let b = m .before .before .before .before .before .before .before in
+    omega (arith, room b, rows b)
 
 loop-less : tie.Need-loop-less Inv-loop μ-loop
 loop-less c = search needs
 
 loop-again : tie.Need-loop-again Inv-loop μ-loop
 loop-again c =
-    let p = c .before .before in
-    let i = p .before .before .before in
+    let p = c .before .before .before in
+    let x = p .before .before in
+    let i = x .before in
     let m = i .before in
-    let l = m .before in
-    let b = l .before .before .before in
+    let f = m .before in
+    let n = f .before in
+    let e = n .before .before in
+    let b = e .before .before .before in
     let a = b .args in
+    let s = a .s in
     let k = m .loop .k in
-    let put = p .put-row .ensures .1 in
-    let whole = put (plain (a .b)) (l .limits .ensures .0) .1 in (
+    let rear = a .j * s .rear .step in
+    let inv = m .loop .inv in
+    let w : m .loop .water ≡ k * s .water .step = inv .3 in
+    let taken = i .loop-test .taken in
+    let g₀ = plain (a .b) in
+    let h₀ = e .beside .ensures .1 s (b .pre .1 .arms) in
+    let none₀ = n .with-none .ensures .1 g₀ rear h₀ (part-with (a .b) rear) in
+    let whole = p .put-row .ensures .1 g₀ rear (f .field .ensures) (inv .5 g₀ h₀ .0) none₀ .1 in (
       omega arith,
       omega (arith, p .put-row .ensures .0),
-      ap length whole ∙ length-written (m .loop .out) _ _ (rw length-line (omega (arith, room b, b .pre .4, m .loop .inv .2))) ∙ m .loop .inv .2,
-      λ w same.
-          group-more (a .s) w (a .j * a .waters) k (m .loop .none) (p .put-row .result) (a .out .now) (m .loop .out) _ (m .loop .inv .3 w same)
-          (omega (arith, room b, b .pre .4))
-          (put w same .0 ∙ ap blanks (row-in (a .s) (a .waters) (b .pre .2) (a .j) k (i .loop-test .taken) w))
-          (put w same .1 ∙ ap (λ x. written (m .loop .out) (36 * (a .j * a .waters + k)) x) (line-in (a .s) (a .waters) (b .pre .2) (a .j) k (i .loop-test .taken) w)),
+      ap length whole ∙ length-written (m .loop .out) _ _ (rw length-line (omega (arith, room b, b .pre .5, inv .2))) ∙ inv .2,
+      omega (arith, w, add-mul k 1 (s .water .step), one-mul (s .water .step)),
+      room-more k (m .loop .x) (a .t .share) (x .carried .result) (x .carried .ensures .0) (inv .4) (b .pre .1 .share),
+      λ g h. (
+        x .carried .ensures .1 s g rear (m .loop .water) (inv .5 g h .0) (b .pre .1 .water),
+        λ none.
+            let put = p .put-row .ensures .1 g rear (f .field .ensures) (inv .5 g h .0) none in
+            group-more s g (a .j * a .waters) k (m .loop .none) (p .put-row .result) (a .out .now) (m .loop .out) _ (inv .5 g h .1 none)
+            (omega (arith, room b, b .pre .5))
+            ((rw w at (put .0)) ∙ ap blanks (row-in s (a .waters) (b .pre .3) (a .j) k taken g))
+            ((rw w at (put .1)) ∙ ap (λ y. written (m .loop .out) (36 * (a .j * a .waters + k)) y) (line-in s (a .waters) (b .pre .3) (a .j) k taken g)),
+      ),
     )
 
 same-length : tie.Need-same-length Inv-loop μ-loop
@@ -103,14 +183,19 @@ same-length c = c .before .loop .inv .2
 returns : tie.Need-returns Inv-loop μ-loop
 returns c =
     let m = c .before in
-    let l = m .before in
-    let b = l .before .before .before in
-    let g = m .loop .inv .3 (plain (b .args .b)) (l .limits .ensures .0) in
-    let e : m .loop .k ≡ b .args .waters = omega arith in (
+    let n = m .before .before in
+    let e = n .before .before in
+    let b = e .before .before .before in
+    let a = b .args in
+    let g = plain (a .b) in
+    let h = e .beside .ensures .1 (a .s) (b .pre .1 .arms) in
+    let none = n .with-none .ensures .1 g (a .j * a .s .rear .step) h (part-with (a .b) (a .j * a .s .rear .step)) in
+    let put = m .loop .inv .5 g h .1 none in
+    let k : m .loop .k ≡ a .waters = omega arith in (
       omega arith,
-      g .blanks ∙ ap (λ n. blanksTo (b .args .s) (plain (b .args .b)) (b .args .j * b .args .waters + n)) e,
+      put .blanks ∙ ap (λ n. blanksTo (a .s) g (a .j * a .waters + n)) k,
       m .loop .inv .2,
-      λ lent n f. g .lines lent n f ∙ ap (λ n. written lent 0 (linesTo (b .args .s) (plain (b .args .b)) (b .args .j * b .args .waters + n))) e,
+      λ lent n f. put .lines lent n f ∙ ap (λ n. written lent 0 (linesTo (a .s) g (a .j * a .waters + n))) k,
     )
 
 pub put-group-spec : {M : Type 1} → statement M
@@ -120,13 +205,18 @@ put-group-spec =
     Inv-loop
     μ-loop
     mul-rear
-    limits-requires
+    beside-requires
+    mul-with-none
+    add-with-none
+    with-none-requires
+    field-requires
     mul-first
     loop-holds
-    mul-water
+    carried-requires
     add-put-row
     put-row-requires
     add-none
+    add-water
     add-k
     loop-less
     loop-again

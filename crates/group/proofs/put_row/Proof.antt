@@ -1,11 +1,13 @@
--- `group::put_row` meets its contract: the row is the one of the limits, and its line goes into the part of the buffer behind
+-- `group::put_row` meets its contract: the row is the one of what is aboard, and its line goes into the part of the buffer behind
 -- the lines before it. Assumes nothing.
 use borrow.Author.Needs.{needs}
 use mathlib.Core.Path.{_≡_, ap, _∙_}
-use Prim.Native.Nat.{_-_, _*_}
+use Prim.Native.Nat.{ℕ, _-_, _*_}
+use native.Mathlib.Omega.{arith}
 use lib.ListN.{length, take, drop}
-use Rattle.paper.specs.Placard.{line}
+use Rattle.paper.specs.Placard.{kilograms, line}
 use Rattle.laws.specs.Written.{written, written-part}
+use Rattle.line.specs.Word.{word}
 use Rattle.group.specs.Numbered.{blanks}
 use Rattle.group.proofs.put_row.Statement.{statement}
 use Rattle.group.proofs.put_row.Tie as tie
@@ -14,7 +16,7 @@ row-requires : tie.Need-row-requires
 row-requires c κs = search needs
 
 mul-put-line : tie.Need-mul-put-line
-mul-put-line c = search needs
+mul-put-line c = omega (arith, c .before .before .pre .5)
 
 sub-put-line : tie.Need-sub-put-line
 sub-put-line c = search needs
@@ -24,6 +26,9 @@ part-put-line-start c = search needs
 
 part-put-line-end : tie.Need-part-put-line-end
 part-put-line-end c = search needs
+
+field-requires : tie.Need-field-requires
+field-requires c κs = search needs
 
 put-line-requires : tie.Need-put-line-requires
 put-line-requires c κs = search needs
@@ -35,18 +40,18 @@ same-length : tie.Need-same-length
 same-length c = search needs
 
 -- what was put is the line of the loads and of the row that was made, in the part of the buffer from the i-th line on
-printed : (c : tie.After-put-line) → c .put-line .last .0 ≡ written (take (length (c .before .before .before .before .args .out .now) - 36 * c .before .before .before .before .args .i) (drop (36 * c .before .before .before .before .args .i) (c .before .before .before .before .args .out .now))) 0 (line (c .before .before .before .before .args .rear) (c .before .before .before .before .args .water) (c .before .before .row .result))
-printed c = c .put-line .ensures
+printed : (c : tie.After-put-line) (r : ℕ) → c .before .before .before .before .before .args .rear ≡ word (kilograms r) → c .put-line .last .0 ≡ written (take (length (c .before .before .before .before .before .args .out .now) - 36 * c .before .before .before .before .before .args .i) (drop (36 * c .before .before .before .before .before .args .i) (c .before .before .before .before .before .args .out .now))) 0 (line r (c .before .before .before .before .before .args .water) (c .before .before .before .row .result))
+printed c r e = c .put-line .ensures r (c .before .before .before .before .before .args .water) e (c .before .field .ensures)
 
 returns : tie.Need-returns
 returns c =
     let p = c .before .before .before in
-    let r = p .before .before in
-    let a = r .before .before .args in (
+    let w = p .before .before .before in
+    let a = w .before .before .args in (
       c .blank .ensures .1,
-      λ b same.
-          let x = r .row .ensures b (a .rear) same in
-          (c .blank .ensures .0 ∙ ap blanks x, written-part (a .out .now) (p .put-line .last .0) _ (36 * a .i) (rw x at (printed p))),
+      λ b r e h none.
+          let x = w .row .ensures .1 b r (a .water) h none in
+          (c .blank .ensures .0 ∙ ap blanks x, written-part (a .out .now) (p .put-line .last .0) _ (36 * a .i) (rw x at (printed p r e))),
     )
 
 pub put-row-spec : {M : Type 1} → statement M
@@ -58,6 +63,7 @@ put-row-spec =
     sub-put-line
     part-put-line-start
     part-put-line-end
+    field-requires
     put-line-requires
     blank-requires
     same-length

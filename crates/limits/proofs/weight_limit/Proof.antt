@@ -1,24 +1,23 @@
--- `limits::weight_limit` meets its contract: the half-plane's two ends are the weight and what it may be. Assumes nothing.
-use mathlib.Core.Path.{_∙_}
-use Prim.Native.Nat.{_+_, _*_}
-use native.Mathlib.Omega.{arith}
+-- `limits::weight_limit` meets its contract: the order of the two sides is that of the weights. Assumes nothing.
+use mathlib.Core.Path.{ap, _∙_}
+use mathlib.Core.Bool.{_&&_}
+use Prim.Native.Nat.{ℕ, _+_, _*_}
 use borrow.Author.Needs.{needs}
-use Rattle.planes.proofs.Lines.{weightPlane, holds-test}
+use native.Mathlib.Omega.{arith}
+use lib.Dec.{leb}
+use Rattle.solver.specs.Span.{within}
 use Rattle.limits.proofs.weight_limit.Statement.{statement}
 use Rattle.limits.proofs.weight_limit.Tie as tie
 
-in-grams-requires : tie.Need-in-grams-requires
-in-grams-requires c κs = search needs
+narrow-requires : tie.Need-narrow-requires
+narrow-requires c κs = search needs
 
 returns : tie.Need-returns
 returns c =
-    let g = c .before .args in
-    let l = c .in-grams .ensures in (
-      λ p v.
-          holds-test (weightPlane (g .wet) (g .weight) (g .most)) (2 * p) (2 * v) (g .weight + 2 * p + 2 * v * g .wet) (g .most) (omega arith) (omega arith)
-          ∙ l .0 p v,
-      l .1,
-    )
+    let a = c .before .args in
+    λ k.
+    c .narrow .ensures k
+    ∙ ap (λ (n : ℕ). within (a .span) k && leb (a .weight + a .each * k) n) (omega arith)
 
 pub weight-limit-spec : {M : Type 1} → statement M
-weight-limit-spec = tie.close (tie.spec in-grams-requires returns)
+weight-limit-spec = tie.close (tie.spec narrow-requires returns)

@@ -1,26 +1,42 @@
--- `row::row` meets its contract: the half-planes say what the limits say, and the solver finds their row. Assumes nothing.
+-- `row::row` meets its contract: the steps that are left keep every limit, and the solver gives their row. Assumes nothing.
 use mathlib.Core.Path.{_≡_, _∙_}
+use mathlib.Core.Bool.{true}
+use Prim.Native.Nat.{ℕ, _*_, _≤_}
+use borrow.Author.Needs.{needs}
 use native.Mathlib.Omega.{arith}
-use Rattle.paper.specs.Rows.{rowOf}
-use Rattle.planes.specs.Plane.{kept}
-use Rattle.sheet.proofs.Accepted.{accepted-sheet}
-use Rattle.row.proofs.Solved.{solved}
+use Rattle.laws.specs.Tests.{span-hi}
+use Rattle.sheet.proofs.Accepted.{Accepted, accepted-sheet}
+use Rattle.solver.specs.Span.{within, stepIn}
+use Rattle.row.proofs.Solved.{solved, row-fits}
 use Rattle.row.proofs.row.Statement.{statement}
 use Rattle.row.proofs.row.Tie as tie
 
-find-row-requires : tie.Need-find-row-requires
-find-row-requires c κs =
-    let b = c .before in
-    (accepted-sheet (b .args .s) (b .pre .0) .steps .front .0, omega (arith, b .pre .1), b .pre .2)
+accepted : (c : tie.Start) → Accepted (c .args .s)
+accepted c = accepted-sheet (c .args .s) (c .pre .0)
 
--- the solver was asked for the row of the sheet's steps, the water and those half-planes
-found : (c : tie.After-find-row) → c .find-row .result ≡ rowOf (kept (c .before .before .args .s .front .step) (c .before .before .args .s .least) (c .before .before .args .s .front .most) (c .before .before .args .water) (c .before .before .args .limits)) (c .before .before .args .s .front .most)
-found c = c .find-row .ensures
+-- no load is above the greatest
+most : (c : tie.After-with-all) (k : ℕ) → within (c .with-all .result) k ≡ true → k * c .before .args .s .front .step ≤ c .before .args .s .front .most
+most c k e =
+    let s = c .before .args .s in
+    span-hi (s .least) (s .front .most) (k * s .front .step) (c .before .pre .3 k (c .with-all .ensures .0 k e))
+
+with-all-requires : tie.Need-with-all-requires
+with-all-requires c κs = search needs
+
+row-of-requires : tie.Need-row-of-requires
+row-of-requires c κs =
+    let b = accepted (c .before) in
+    (b .steps .front .0, λ k e. omega (arith, most c k e, b .ranges .front))
 
 returns : tie.Need-returns
-returns c b rear same =
-    let a = c .before .before .args in
-    found c ∙ solved (a .s) b rear (a .water) (a .limits) same
+returns c =
+    let w = c .before in
+    let b = w .before in
+    let s = b .args .s in
+    let e = c .row-of .ensures (s .front .most) (most w) in (
+      row-fits (c .row-of .result) (stepIn (s .front .step) (w .with-all .result)) (s .front .most) (accepted b .ranges .front) e,
+      λ g rear v h none. e ∙ solved s g rear v (w .with-all .result) (w .with-all .ensures .1 g rear v h none),
+    )
 
 pub row-spec : {M : Type 1} → statement M
-row-spec = tie.close (tie.spec find-row-requires returns)
+row-spec = tie.close (tie.spec with-all-requires row-of-requires returns)

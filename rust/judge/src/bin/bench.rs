@@ -4,10 +4,10 @@
 //! `cargo run --release -p judge --bin bench` times it, and with
 //! `-- --instructions` valgrind counts the instructions. Both print Markdown.
 //!
-//! The library is called through its safe calls on lent buffers, plain Rust is
-//! the direct functions of this package. Each line runs both sides in turn, in
-//! rounds of some milliseconds, so that what else the machine does meets both;
-//! what counts is the ratio of each round.
+//! The library is called through its safe calls on lent buffers, plain Rust is the
+//! fast functions of this package: the same answers, as fast as safe Rust gives
+//! them. Each line runs both sides in turn, in rounds of some milliseconds, so that
+//! what else the machine does meets both; what counts is the ratio of each round.
 //!
 //! Each side works on records that it has written itself. So the instructions of
 //! an archive from before paired weighings can be counted as well, by the same
@@ -18,7 +18,7 @@
 
 use judge::generate::{case, Case};
 use judge::paper::{Call, Change, Counts, Paired, Sheet, Weighing};
-use judge::run::{front_file, Calls, Direct};
+use judge::run::{front_file, Calls, Fast};
 use library::Library;
 use std::env;
 use std::hint::black_box;
@@ -370,11 +370,11 @@ impl Job {
 
     /// Both sides must answer the same, as expected, and leave the same bytes.
     fn assert_same(self) {
-        let desk = self.desk::<Direct>();
+        let desk = self.desk::<Fast>();
         let (mut library, mut plain) = (self.desk::<Library>(), desk.clone());
         assert!(library == desk);
         let answer = self.run::<Library>(&mut library);
-        assert_eq!(answer, self.run::<Direct>(&mut plain));
+        assert_eq!(answer, self.run::<Fast>(&mut plain));
         match self {
             Job::RefusedChange => assert_eq!(answer, 9),
             // Some of its rows are blank, and some gliders have no sheet.
@@ -385,7 +385,7 @@ impl Job {
         assert!(library.records == desk.records && library == plain);
         for record in &desk.records {
             let counts = Library::placard(record, &mut library.plate);
-            assert_eq!(counts, Direct::placard(record, &mut plain.plate));
+            assert_eq!(counts, Fast::placard(record, &mut plain.plate));
             assert!(library.plate == plain.plate);
         }
     }
@@ -433,14 +433,14 @@ impl Rounds {
     /// Both sides in turn; the one that begins changes too.
     fn of(job: Job) -> Rounds {
         let desk = &mut job.desk::<Library>();
-        let times = times_in::<Direct>(job, desk, ROUND);
+        let times = times_in::<Fast>(job, desk, ROUND);
         let (mut library, mut plain) = (Vec::new(), Vec::new());
         for round in 0..ROUNDS {
             if round % 2 == 0 {
                 library.push(time::<Library>(job, desk, times));
-                plain.push(time::<Direct>(job, desk, times));
+                plain.push(time::<Fast>(job, desk, times));
             } else {
-                plain.push(time::<Direct>(job, desk, times));
+                plain.push(time::<Fast>(job, desk, times));
                 library.push(time::<Library>(job, desk, times));
             }
         }
@@ -548,11 +548,11 @@ fn print_lines() {
 
 /// What the fleet is like.
 fn print_fleet() {
-    let Desk { records, mut plate } = Job::Fleet.desk::<Direct>();
+    let Desk { records, mut plate } = Job::Fleet.desk::<Fast>();
     let entries: u64 = records.iter().map(|record| u64::from(record[5])).sum();
     let counts: Vec<Counts> = records
         .iter()
-        .filter_map(|record| Direct::placard(record, &mut plate).ok())
+        .filter_map(|record| Fast::placard(record, &mut plate).ok())
         .collect();
     let rows: Vec<f64> = counts.iter().map(|counts| counts.rows as f64).collect();
     let all: f64 = rows.iter().sum();
@@ -653,7 +653,7 @@ fn repeat(words: &[String]) -> Option<()> {
     let times = times.parse().ok()?;
     match side.as_str() {
         "library" => job.repeat::<Library>(&mut job.desk::<Library>(), times),
-        "plain" => job.repeat::<Direct>(&mut job.desk::<Direct>(), times),
+        "plain" => job.repeat::<Fast>(&mut job.desk::<Fast>(), times),
         _ => return None,
     }
     Some(())
@@ -747,21 +747,21 @@ mod tests {
     #[test]
     fn the_placards_have_their_rows() {
         for rows in [1, 16, 256] {
-            let record = two_seater::<Direct>(64, rows);
-            let counts = Direct::placard(&record, &mut [0; LONGEST_PLACARD]);
+            let record = two_seater::<Fast>(64, rows);
+            let counts = Fast::placard(&record, &mut [0; LONGEST_PLACARD]);
             assert_eq!(record[5], 64);
             assert_eq!(
                 counts.map(|counts| (counts.rows, counts.blank)),
                 Ok((rows, 0))
             );
         }
-        let sheets = Job::CheckSheets.desk::<Direct>();
+        let sheets = Job::CheckSheets.desk::<Fast>();
         assert_eq!(sheets.records[0].len(), LONGEST_FILE);
     }
 
     #[test]
     fn the_fleet_is_spread() {
-        let fleet = fleet::<Direct>();
+        let fleet = fleet::<Fast>();
         let entries: Vec<u8> = fleet.iter().map(|record| record[5]).collect();
         assert_eq!(entries.len(), GLIDERS);
         assert!((1..=64).all(|count| entries.contains(&count)));

@@ -2,17 +2,17 @@
 //!
 //! `cargo run --release -p judge --bin compare -- [cases] [seed]`
 //!
-//! Each case is run three times: by the library, through its safe calls on lent
-//! buffers; by the paper, with plain loops; and by the direct functions. Every
-//! number and every byte must be the same, of the record's buffer after every
-//! call, of the placard's buffer and of the answers' buffers. The files that
-//! cases read back, good and damaged, are also lent as a record's buffer. A
+//! Each case is run four times: by the library, through its safe calls on lent
+//! buffers; by the paper, with plain loops; by the direct functions; and by the
+//! fast ones. Every number and every byte must be the same, of the record's buffer
+//! after every call, of the placard's buffer and of the answers' buffers. The files
+//! that cases read back, good and damaged, are also lent as a record's buffer. A
 //! difference is printed with all of its case and ends the program with 1.
 
 #![deny(unsafe_code)]
 
 use judge::generate::{case, Case};
-use judge::run::{Answers, By, Direct, Guarded, Lent, Paper, Plate, Trial, WORK};
+use judge::run::{Answers, By, Direct, Fast, Guarded, Lent, Paper, Plate, Trial, WORK};
 use library::Library;
 use std::fmt::{self, Display, Formatter};
 use std::panic::catch_unwind;
@@ -131,7 +131,7 @@ fn placard_is_written(record: &[u8], trial: &Trial, plate: &Plate, length: usize
         && out.holds()
 }
 
-// ---- A trial on three sides ----
+// ---- A trial on four sides ----
 
 /// What one side answers; its placard is left out where it takes too long.
 struct Side {
@@ -158,6 +158,7 @@ struct Outcome {
     library: Side,
     paper: Side,
     direct: Side,
+    fast: Side,
     faults: Vec<String>,
 }
 
@@ -166,10 +167,12 @@ impl Outcome {
         let (lent, library) = Side::run::<By<Library>>("library", trial, |_| true);
         let (_, paper) = Side::run::<Paper>("paper", trial, |paper| paper.work() <= WORK);
         let (_, direct) = Side::run::<By<Direct>>("direct", trial, |_| true);
+        let (_, fast) = Side::run::<By<Fast>>("fast", trial, |_| true);
         let mut outcome = Outcome {
             library,
             paper,
             direct,
+            fast,
             faults: Vec::new(),
         };
         outcome.compare();
@@ -177,13 +180,13 @@ impl Outcome {
         outcome
     }
 
-    fn sides(&self) -> [&Side; 3] {
-        [&self.library, &self.paper, &self.direct]
+    fn sides(&self) -> [&Side; 4] {
+        [&self.library, &self.paper, &self.direct, &self.fast]
     }
 
     /// The library's answers against the others'.
     fn compare(&mut self) {
-        for side in [&self.paper, &self.direct] {
+        for side in [&self.paper, &self.direct, &self.fast] {
             if side.answers != self.library.answers {
                 self.faults
                     .push(format!("calls, library and {}", side.name));

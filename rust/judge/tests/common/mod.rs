@@ -1,35 +1,45 @@
-//! The paper and the direct functions side by side.
+//! The paper, the direct functions and the fast ones side by side.
 
 #![allow(dead_code)]
 
-use judge::direct;
 use judge::paper::{Call, Centre, Counts, Journal};
+use judge::run::{By, Direct, Fast, Lent};
 
-/// A journal and a lent buffer side by side: every answer is asked of both.
-pub struct Both {
+/// A journal and two lent buffers side by side: every answer is asked of all.
+pub struct Sides {
     /// The paper's journal.
     pub journal: Journal,
-    /// The buffer of the direct functions.
-    pub buffer: Vec<u8>,
+    direct: By<Direct>,
+    fast: By<Fast>,
 }
 
-impl Both {
+impl Sides {
     /// Fresh, with room for every file.
-    pub fn new() -> Both {
-        let mut buffer = vec![0xa5; 3_910];
-        assert_eq!(direct::fresh(&mut buffer), 0);
-        Both {
+    pub fn new() -> Sides {
+        let buffer = [0xa5; 3_910];
+        let mut sides = Sides {
             journal: Journal::new(),
-            buffer,
-        }
+            direct: By::found(&buffer),
+            fast: By::found(&buffer),
+        };
+        assert_eq!(sides.direct.fresh(), 0);
+        assert_eq!(sides.fast.fresh(), 0);
+        sides
     }
 
-    /// A call's number; the two records must agree afterwards.
+    /// The lent buffer, which must be the same on both sides.
+    pub fn buffer(&self) -> &[u8] {
+        assert_eq!(self.fast.buffer(), self.direct.buffer());
+        self.direct.buffer()
+    }
+
+    /// A call's number; the records must agree afterwards.
     pub fn call(&mut self, call: &Call) -> u64 {
         let number = self.journal.call(call);
-        assert_eq!(direct::call(&mut self.buffer, call), number);
+        assert_eq!(self.direct.call(call), number);
+        assert_eq!(self.fast.call(call), number);
         let file = self.journal.file();
-        assert_eq!(self.buffer[..file.len()], file);
+        assert_eq!(self.buffer()[..file.len()], file);
         number
     }
 
@@ -41,16 +51,19 @@ impl Both {
     /// The centre of gravity.
     pub fn centre(&self) -> Result<Centre, u64> {
         let centre = self.journal.centre();
-        assert_eq!(direct::centre(&self.buffer), centre);
+        assert_eq!(self.direct.centre(), centre);
+        assert_eq!(self.fast.centre(), centre);
         centre
     }
 
     /// The placard's counts in a buffer of so many bytes.
     pub fn placard(&self, bytes: usize) -> Result<Counts, u64> {
-        let (mut out, mut other) = (vec![7; bytes], vec![7; bytes]);
-        let counts = self.journal.placard(&mut out);
-        assert_eq!(direct::placard(&self.buffer, &mut other), counts);
-        assert_eq!(out, other);
+        let mut outs = [(); 3].map(|()| vec![7; bytes]);
+        let [out, direct, fast] = &mut outs;
+        let counts = self.journal.placard(out);
+        assert_eq!(self.direct.placard(direct), counts);
+        assert_eq!(self.fast.placard(fast), counts);
+        assert!(out == direct && out == fast);
         counts
     }
 

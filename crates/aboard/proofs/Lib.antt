@@ -1,0 +1,2 @@
+-- What the proofs share: what a sum stands for.
+pub mod Standing

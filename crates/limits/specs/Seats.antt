@@ -1,0 +1,42 @@
+-- The front seat as the code has it, and which numbers of steps in it keep the limits.
+use mathlib.Core.Path.{_≡_}
+use mathlib.Core.Bool.{Bool, true, _&&_}
+use Prim.Native.Nat.{ℕ, _+_, _*_}
+use lib.Dec.{leb}
+use Rattle.laws.specs.declared.Sides.{Sides}
+use Rattle.paper.specs.declared.Sheet.{Sheet}
+use Rattle.paper.specs.Record.{Balance}
+use Rattle.paper.specs.Rows.{keepsAt, upTo}
+use Rattle.aboard.specs.declared.Laden.{Laden}
+use Rattle.aboard.specs.Aboard.{LoadOf, Share}
+use Rattle.solver.specs.declared.Span.{Span}
+use Rattle.solver.specs.Span.{within}
+use Rattle.limits.specs.declared.Seat.{Seat}
+
+-- the moment less FWD's, and 20 times the safe aft limit's less 20 times the moment
+abbrev pub forwardRoom : Laden → Sides
+forwardRoom x = record { up = x .moment .up + x .forward .down; down = x .moment .down + x .forward .up }
+
+abbrev pub safeRoom : Laden → Sides
+safeRoom x = record { up = 20 * x .moment .down + x .safe .up; down = 20 * x .moment .up + x .safe .down }
+
+-- k steps are a load from the least to the greatest
+abbrev pub inSeat : Sheet → ℕ → Bool
+inSeat s k = leb (s .least) (k * s .front .step) && leb (k * s .front .step) (s .front .most)
+
+pub record SeatOf (s : Sheet) (q : Seat) : Type 0 where
+  pub steps : (k : ℕ) → within (q .steps) k ≡ (inSeat s k && leb 1 (k * s .front .step))
+  pub step : LoadOf s (s .front .step) (s .front .arm) (q .step)
+  pub share : Share (q .step)
+
+-- some steps of the seat
+abbrev pub Seated : Sheet → Span → Type 0
+Seated s x = (k : ℕ) → within x k ≡ true → inSeat s k ≡ true
+
+-- the steps that keep every limit with none of the water aboard
+abbrev pub NoneOf : Sheet → Balance → ℕ → Span → Type 0
+NoneOf s b r x = (k : ℕ) → within x k ≡ (inSeat s k && keepsAt s b r (k * s .front .step) 0)
+
+-- and with every part of water w
+abbrev pub AllOf : Sheet → Balance → ℕ → ℕ → Span → Type 0
+AllOf s b r w x = (k : ℕ) → within x k ≡ (inSeat s k && upTo (keepsAt s b r (k * s .front .step)) w)

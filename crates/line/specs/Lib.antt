@@ -1,0 +1,2 @@
+-- A field as a word.
+pub mod Word
