@@ -3,18 +3,22 @@
 use mathlib.Core.Path.{_≡_, refl, sym, ap, _∙_}
 use mathlib.Core.List.{List}
 use Prim.Native.Nat.{ℕ, _+_, _*_, _≤_, _<_}
-use native.Mathlib.Nat.{mul-le-mul-right, add-mul, one-mul}
+use mathlib.Core.Logic.{⊎-elim}
+use native.Mathlib.Nat.{mul-le-mul-right, add-mul, one-mul, eq-or-lt-of-le}
 use native.Mathlib.Numerals.{add-one}
 use native.Mathlib.Omega.{arith}
 use lib.Arith.{digits-div, digits-mod}
-use lib.ListN.{length}
+use lib.ListN.{length, set}
+use lib.Seq.{getD-set-same, getD-set-other}
 use Rattle.laws.specs.Division.{multiple-most}
 use Rattle.laws.specs.Written.{written, written-follows}
 use Rattle.paper.specs.declared.Sheet.{Sheet}
 use Rattle.paper.specs.Record.{Balance}
 use Rattle.paper.specs.Rows.{row, rowCount}
-use Rattle.paper.specs.Placard.{line}
+use Rattle.paper.specs.Placard.{kilograms, line}
+use Rattle.line.specs.Word.{word}
 use Rattle.group.specs.Numbered.{rears, waters, rearAt, waterAt, rowAt, lineAt, blanks, linesTo, blanksTo}
+use Rattle.group.specs.Shared.{FieldsOf}
 use Rattle.group.proofs.Rows.{length-lines, lines-more, blank-more}
 
 -- ---- one row more
@@ -77,3 +81,11 @@ group-more s b first k blank one from out last g h o l =
       blanks = let n = one-blank s b (blanksTo s b i) one i refl o in omega (arith, g .blanks, n ∙ ap (blanksTo s b) e);
       lines = λ lent n f. one-put s b lent out last i (omega arith) (g .lines lent n f) l ∙ ap (λ (m : ℕ). written lent 0 (linesTo s b m)) e;
     }
+
+-- ---- the fields of the waters: one more of them
+
+pub fields-more : (s : Sheet) (k x : ℕ) (fields : List ℕ) → k < length fields → FieldsOf s k fields → x ≡ word (kilograms (k * s .water .step)) → FieldsOf s (k + 1) (set fields k x)
+fields-more s k x fields h f e i l =
+    ⊎-elim (λ (z : i ≡ k). rw (z, getD-set-same fields k x 0 h) e)
+    (λ (z : i < k). rw (getD-set-other fields k i x 0 (omega arith)) (f i z))
+    (eq-or-lt-of-le (omega arith))

@@ -21,10 +21,13 @@ ghost use Rattle.aboard.specs.Aboard.{Beside, Room};
 ghost use Rattle.limits.specs.Seats.{Seated, NoneOf};
 ghost use Rattle.line.specs.Word.{word};
 ghost use Rattle.group.specs.Numbered.{rears, waters as Numbered·waters, blanks, linesTo, blanksTo};
-ghost use Rattle.group.specs.Shared.{TermsOf};
+ghost use Rattle.group.specs.Shared.{TermsOf, FieldsOf};
 
 // How many bytes a line has.
 pub const LINE: usize = 36;
+
+// The most waters that a sheet has: each has a row.
+pub const WATERS: usize = 256;
 
 // What all rows of a placard have in common: the arms, the front seat, and a step of water.
 pub struct Terms {
@@ -56,8 +59,24 @@ fn blank(x: Row) -> usize
     }
 }
 
-// The line of a row, as the i-th: behind the lines before it. The rear load comes as its field, and with all of the water it is
-// aboard x; a span holds the steps that keep every limit with none of it.
+// The fields of the waters, each made once for all rear loads.
+pub fn water_fields(s: Sheet, waters: usize) -> [u64; WATERS]
+    requires { ⌜ (firstNumber (sheetFaults s) ≡ 0) × (waters ≡ Numbered·waters s) ⌝ }
+    ensures { λ fields. ⌜ FieldsOf s waters fields ⌝ }
+{
+    let mut fields = [0; WATERS];
+    let mut water = 0;
+    let mut k = 0;
+    while k < waters {
+        fields[k] = line::field(water);
+        water += s.water.step;
+        k += 1;
+    }
+    fields
+}
+
+// The line of a row, as the i-th: behind the lines before it. Rear load and water come as their fields; both are aboard x, and a
+// span holds the steps that keep every limit with none of the water.
 fn put_row(
     s: Sheet,
     t: Terms,
@@ -68,18 +87,26 @@ fn put_row(
     i: usize,
     out: &mut [u8],
 ) -> usize
-    requires { ⌜ (firstNumber (sheetFaults s) ≡ 0) × TermsOf s t × Seated s span × Room 256 x × (water ≤ 2000000) × (i < 256) × (lineLength * (i + 1) ≤ length (now out)) ⌝ }
-    ensures { λ n. ⌜ (n ≤ 1) × ((b : Plain) (r : ℕ) → rear ≡ word (kilograms r) → Beside s b r water x → NoneOf s b r span → (n ≡ blanks (row s b r water)) × (now (out .exit) ≡ written (now (out .entry)) (lineLength * i) (line r water (row s b r water)))) ⌝ }
+    requires { ⌜ (firstNumber (sheetFaults s) ≡ 0) × TermsOf s t × Seated s span × Room 256 x × (i < 256) × (lineLength * (i + 1) ≤ length (now out)) ⌝ }
+    ensures { λ n. ⌜ (n ≤ 1) × ((b : Plain) (r w : ℕ) → rear ≡ word (kilograms r) → water ≡ word (kilograms w) → Beside s b r w x → NoneOf s b r span → (n ≡ blanks (row s b r w)) × (now (out .exit) ≡ written (now (out .entry)) (lineLength * i) (line r w (row s b r w)))) ⌝ }
 {
     let y = row::row(s, t.seat, span, x);
-    line::put_line(&mut out[LINE * i..], rear, line::field(water), y);
+    line::put_line(&mut out[LINE * i..], rear, water, y);
     blank(y)
 }
 
 // The lines of the rows beside the j-th rear load. What is aboard starts afresh with it, and goes on by the share of a step of
 // water; the share behind the last row is added and not used.
-pub fn put_group(s: Sheet, t: Terms, b: Balance, j: usize, waters: usize, out: &mut [u8]) -> usize
-    requires { ⌜ (firstNumber (sheetFaults s) ≡ 0) × TermsOf s t × Bounded 1024 b × (waters ≡ Numbered·waters s) × (j < rears s) × (lineLength * rowCount s ≤ length (now out)) ⌝ }
+pub fn put_group(
+    s: Sheet,
+    t: Terms,
+    b: Balance,
+    j: usize,
+    waters: usize,
+    fields: &[u64; WATERS],
+    out: &mut [u8],
+) -> usize
+    requires { ⌜ (firstNumber (sheetFaults s) ≡ 0) × TermsOf s t × Bounded 1024 b × (waters ≡ Numbered·waters s) × (j < rears s) × FieldsOf s waters (now fields) × (lineLength * rowCount s ≤ length (now out)) ⌝ }
     ensures { λ n. ⌜ (n ≤ waters) × (n + blanksTo s (plain b) (j * waters) ≡ blanksTo s (plain b) (j * waters + waters)) × (length (now (out .exit)) ≡ length (now (out .entry))) × ((lent : List ℕ) → length lent ≡ length (now (out .entry)) → now (out .entry) ≡ written lent 0 (linesTo s (plain b) (j * waters)) → now (out .exit) ≡ written lent 0 (linesTo s (plain b) (j * waters + waters))) ⌝ }
 {
     let rear = j as u64 * s.rear.step;
@@ -88,13 +115,11 @@ pub fn put_group(s: Sheet, t: Terms, b: Balance, j: usize, waters: usize, out: &
     let field = line::field(rear);
     let first = j * waters;
     let mut none = 0;
-    let mut water = 0;
     let mut k = 0;
     while k < waters {
         let next = aboard::carried(x, t.share);
-        none += put_row(s, t, span, x, field, water, first + k, out);
+        none += put_row(s, t, span, x, field, fields[k], first + k, out);
         x = next;
-        water += s.water.step;
         k += 1;
     }
     none

@@ -30,10 +30,11 @@ fn put_rows(s: Sheet, b: Balance, out: &mut [u8]) -> usize
     let t = group::terms_of(s);
     let rears = sheet::loads(s.rear) as usize;
     let waters = sheet::loads(s.water) as usize;
+    let fields = group::water_fields(s, waters);
     let mut none = 0;
     let mut j = 0;
     while j < rears {
-        none += group::put_group(s, t, b, j, waters, out);
+        none += group::put_group(s, t, b, j, waters, &fields, out);
         j += 1;
     }
     none

@@ -1,9 +1,9 @@
 -- `group::put_group` meets its contract. The loop's invariant: what is aboard is the rear load and the water of k steps, and the
 -- first k rows of the group are put, and their blank ones counted, whatever the balance that the loop began with. Assumes nothing.
 use borrow.Author.Needs.{needs}
-use mathlib.Core.Path.{_≡_, refl, sym, ap, _∙_}
+use mathlib.Core.Path.{_≡_, refl, ap, _∙_}
 use Prim.Native.Nat.{ℕ, _+_, _*_, _-_, _≤_}
-use native.Mathlib.Nat.{add-mul, one-mul}
+use native.Mathlib.Nat.{add-mul, one-mul, zero-mul}
 use native.Mathlib.Omega.{arith}
 use lib.IntN.{pos, _+ℤ_}
 use lib.ListN.{length}
@@ -21,16 +21,16 @@ use Rattle.aboard.proofs.Standing.{room-more, room-least}
 use Rattle.limits.specs.Seats.{NoneOf}
 use Rattle.line.proofs.Length.{length-line}
 use Rattle.group.specs.Numbered.{blanks, linesTo, blanksTo}
-use Rattle.group.proofs.Buffer.{water-in, row-in, line-in, group-room, rear-in, GroupTo, group-begun, group-more}
+use Rattle.group.proofs.Buffer.{row-in, line-in, group-room, rear-in, GroupTo, group-begun, group-more}
 use Rattle.group.proofs.put_group.Statement.{statement}
 use Rattle.group.proofs.put_group.Tie as tie
 
 abbrev Inv-loop : tie.InvT-loop
-Inv-loop s t j waters out₀ rear x₀ span field first none₀ water₀ k₀ out x none water k =
-    (k ≤ waters) × (none ≤ k) × (length out ≡ length out₀) × (water ≡ k * s .water .step) × Room k x × ((b : Balance) → Beside s b rear 0 x₀ → Beside s b rear water x × (NoneOf s b rear span → GroupTo s b first k none out₀ out))
+Inv-loop s t j waters fields out₀ rear x₀ span field first none₀ k₀ out x none k =
+    (k ≤ waters) × (none ≤ k) × (length out ≡ length out₀) × Room k x × ((b : Balance) → Beside s b rear 0 x₀ → Beside s b rear (k * s .water .step) x × (NoneOf s b rear span → GroupTo s b first k none out₀ out))
 
 abbrev μ-loop : tie.MeasureT-loop
-μ-loop s t j waters out₀ rear x₀ span field first none₀ water₀ k₀ out x none water k = waters - k
+μ-loop s t j waters fields out₀ rear x₀ span field first none₀ k₀ out x none k = waters - k
 
 -- the rows of the group are among the sheet's
 room : (c : tie.Start Inv-loop μ-loop) → c .args .j * c .args .waters + c .args .waters ≤ rowCount (c .args .s)
@@ -78,58 +78,55 @@ mul-first c =
 loop-holds : tie.Need-loop-holds Inv-loop μ-loop
 loop-holds c =
     let e = c .before .before .before in
-    let b = e .before .before .before in
-    let a = b .args in (
+    let a = e .before .before .before .args in
+    let z : 0 * a .s .water .step ≡ 0 = zero-mul (a .s .water .step) in (
       omega arith,
       omega arith,
       refl,
-      omega arith,
       e .beside .ensures .0,
-      λ g h. (h, λ none. group-begun (a .s) g _ (a .out .now)),
+      λ g h. (rw z h, λ none. group-begun (a .s) g _ (a .out .now)),
     )
 
 carried-requires : tie.Need-carried-requires Inv-loop μ-loop
 carried-requires c κs =
     let m = c .before in
     let b = m .before .before .before .before .before .before .before in
-    (room-least (m .loop .k) 256 (m .loop .x) (omega (arith, room b, rows b)) (m .loop .inv .4), b .pre .1 .share)
+    (room-least (m .loop .k) 256 (m .loop .x) (omega (arith, room b, rows b)) (m .loop .inv .3), b .pre .1 .share)
+
+mul-put-row : tie.Need-mul-put-row Inv-loop μ-loop
+mul-put-row c =
+    let b = c .before .before .before .before .before .before .before .before .before in
+    omega (arith, room b, rows b)
+
+element-copy-out-put-row : tie.Need-element-copy-out-put-row Inv-loop μ-loop
+element-copy-out-put-row c =
+    let b = c .before .before .before .before .before .before .before .before .before in
+    omega (arith, room b, rows b)
 
 add-put-row : tie.Need-add-put-row Inv-loop μ-loop
 add-put-row c =
-    let b = c .before .before .before .before .before .before .before .before .before in
+    let b = c .before .before .before .before .before .before .before .before .before .before in
     omega (arith, room b, rows b)
 
 put-row-requires : tie.Need-put-row-requires Inv-loop μ-loop
 put-row-requires c κs =
-    let i = c .before .before in
-    let m = i .before in
+    let m = c .before .before .before .before in
     let n = m .before .before in
-    let b = n .before .before .before .before .before in
-    let w = water-in (b .args .s) (b .args .waters) (b .pre .3) (b .args .j) (m .loop .k) (i .loop-test .taken) in (
+    let b = n .before .before .before .before .before in (
       b .pre .0,
       b .pre .1,
       n .with-none .ensures .0,
-      room-least (m .loop .k) 256 (m .loop .x) (omega (arith, room b, rows b)) (m .loop .inv .4),
-      omega (arith, w, m .loop .inv .3, accepted-sheet (b .args .s) (b .pre .0) .ranges .water),
+      room-least (m .loop .k) 256 (m .loop .x) (omega (arith, room b, rows b)) (m .loop .inv .3),
       omega (arith, room b, rows b),
-      omega (arith, room b, b .pre .5, m .loop .inv .2),
+      omega (arith, room b, b .pre .6, m .loop .inv .2),
     )
 
 add-none : tie.Need-add-none Inv-loop μ-loop
 add-none c =
     let p = c .before .before in
-    let m = p .before .before .before .before in
+    let m = p .before .before .before .before .before in
     let b = m .before .before .before .before .before .before .before in
     omega (arith, p .put-row .ensures .0, m .loop .inv .1, room b, rows b)
-
-add-water : tie.Need-add-water Inv-loop μ-loop
-add-water c =
-    let i = c .before .before .before .before .before .before in
-    let m = i .before in
-    let b = m .before .before .before .before .before .before .before in
-    let w = water-in (b .args .s) (b .args .waters) (b .pre .3) (b .args .j) (m .loop .k) (i .loop-test .taken) in
-    let o = accepted-sheet (b .args .s) (b .pre .0) in
-    omega (arith, w, m .loop .inv .3, o .ranges .water, o .steps .water .1)
 
 add-k : tie.Need-add-k Inv-loop μ-loop
 add-k c =
@@ -142,8 +139,8 @@ loop-less c = search needs
 
 loop-again : tie.Need-loop-again Inv-loop μ-loop
 loop-again c =
-    let p = c .before .before .before in
-    let x = p .before .before in
+    let p = c .before .before in
+    let x = p .before .before .before in
     let i = x .before in
     let m = i .before in
     let f = m .before in
@@ -153,27 +150,28 @@ loop-again c =
     let a = b .args in
     let s = a .s in
     let k = m .loop .k in
+    let water = k * s .water .step in
     let rear = a .j * s .rear .step in
     let inv = m .loop .inv in
-    let w : m .loop .water ≡ k * s .water .step = inv .3 in
     let taken = i .loop-test .taken in
+    let field = b .pre .5 k taken in
     let g₀ = plain (a .b) in
     let h₀ = e .beside .ensures .1 s (b .pre .1 .arms) in
     let none₀ = n .with-none .ensures .1 g₀ rear h₀ (part-with (a .b) rear) in
-    let whole = p .put-row .ensures .1 g₀ rear (f .field .ensures) (inv .5 g₀ h₀ .0) none₀ .1 in (
+    let whole = p .put-row .ensures .1 g₀ rear water (f .field .ensures) field (inv .4 g₀ h₀ .0) none₀ .1 in
+    let next : (k + 1) * s .water .step ≡ water + s .water .step = omega (arith, add-mul k 1 (s .water .step), one-mul (s .water .step)) in (
       omega arith,
       omega (arith, p .put-row .ensures .0),
-      ap length whole ∙ length-written (m .loop .out) _ _ (rw length-line (omega (arith, room b, b .pre .5, inv .2))) ∙ inv .2,
-      omega (arith, w, add-mul k 1 (s .water .step), one-mul (s .water .step)),
-      room-more k (m .loop .x) (a .t .share) (x .carried .result) (x .carried .ensures .0) (inv .4) (b .pre .1 .share),
+      ap length whole ∙ length-written (m .loop .out) _ _ (rw length-line (omega (arith, room b, b .pre .6, inv .2))) ∙ inv .2,
+      room-more k (m .loop .x) (a .t .share) (x .carried .result) (x .carried .ensures .0) (inv .3) (b .pre .1 .share),
       λ g h. (
-        x .carried .ensures .1 s g rear (m .loop .water) (inv .5 g h .0) (b .pre .1 .water),
+        rw next (x .carried .ensures .1 s g rear water (inv .4 g h .0) (b .pre .1 .water)),
         λ none.
-            let put = p .put-row .ensures .1 g rear (f .field .ensures) (inv .5 g h .0) none in
-            group-more s g (a .j * a .waters) k (m .loop .none) (p .put-row .result) (a .out .now) (m .loop .out) _ (inv .5 g h .1 none)
-            (omega (arith, room b, b .pre .5))
-            ((rw w at (put .0)) ∙ ap blanks (row-in s (a .waters) (b .pre .3) (a .j) k taken g))
-            ((rw w at (put .1)) ∙ ap (λ y. written (m .loop .out) (36 * (a .j * a .waters + k)) y) (line-in s (a .waters) (b .pre .3) (a .j) k taken g)),
+            let put = p .put-row .ensures .1 g rear water (f .field .ensures) field (inv .4 g h .0) none in
+            group-more s g (a .j * a .waters) k (m .loop .none) (p .put-row .result) (a .out .now) (m .loop .out) _ (inv .4 g h .1 none)
+            (omega (arith, room b, b .pre .6))
+            (put .0 ∙ ap blanks (row-in s (a .waters) (b .pre .3) (a .j) k taken g))
+            (put .1 ∙ ap (λ y. written (m .loop .out) (36 * (a .j * a .waters + k)) y) (line-in s (a .waters) (b .pre .3) (a .j) k taken g)),
       ),
     )
 
@@ -190,7 +188,7 @@ returns c =
     let g = plain (a .b) in
     let h = e .beside .ensures .1 (a .s) (b .pre .1 .arms) in
     let none = n .with-none .ensures .1 g (a .j * a .s .rear .step) h (part-with (a .b) (a .j * a .s .rear .step)) in
-    let put = m .loop .inv .5 g h .1 none in
+    let put = m .loop .inv .4 g h .1 none in
     let k : m .loop .k ≡ a .waters = omega arith in (
       omega arith,
       put .blanks ∙ ap (λ n. blanksTo (a .s) g (a .j * a .waters + n)) k,
@@ -213,10 +211,11 @@ put-group-spec =
     mul-first
     loop-holds
     carried-requires
+    mul-put-row
+    element-copy-out-put-row
     add-put-row
     put-row-requires
     add-none
-    add-water
     add-k
     loop-less
     loop-again

@@ -16,7 +16,7 @@ row-requires : tie.Need-row-requires
 row-requires c κs = search needs
 
 mul-put-line : tie.Need-mul-put-line
-mul-put-line c = omega (arith, c .before .before .pre .5)
+mul-put-line c = omega (arith, c .before .before .pre .4)
 
 sub-put-line : tie.Need-sub-put-line
 sub-put-line c = search needs
@@ -26,9 +26,6 @@ part-put-line-start c = search needs
 
 part-put-line-end : tie.Need-part-put-line-end
 part-put-line-end c = search needs
-
-field-requires : tie.Need-field-requires
-field-requires c κs = search needs
 
 put-line-requires : tie.Need-put-line-requires
 put-line-requires c κs = search needs
@@ -40,18 +37,18 @@ same-length : tie.Need-same-length
 same-length c = search needs
 
 -- what was put is the line of the loads and of the row that was made, in the part of the buffer from the i-th line on
-printed : (c : tie.After-put-line) (r : ℕ) → c .before .before .before .before .before .args .rear ≡ word (kilograms r) → c .put-line .last .0 ≡ written (take (length (c .before .before .before .before .before .args .out .now) - 36 * c .before .before .before .before .before .args .i) (drop (36 * c .before .before .before .before .before .args .i) (c .before .before .before .before .before .args .out .now))) 0 (line r (c .before .before .before .before .before .args .water) (c .before .before .before .row .result))
-printed c r e = c .put-line .ensures r (c .before .before .before .before .before .args .water) e (c .before .field .ensures)
+printed : (c : tie.After-put-line) (r w : ℕ) → c .before .before .before .before .args .rear ≡ word (kilograms r) → c .before .before .before .before .args .water ≡ word (kilograms w) → c .put-line .last .0 ≡ written (take (length (c .before .before .before .before .args .out .now) - 36 * c .before .before .before .before .args .i) (drop (36 * c .before .before .before .before .args .i) (c .before .before .before .before .args .out .now))) 0 (line r w (c .before .before .row .result))
+printed c r w e f = c .put-line .ensures r w e f
 
 returns : tie.Need-returns
 returns c =
     let p = c .before .before .before in
-    let w = p .before .before .before in
-    let a = w .before .before .args in (
+    let y = p .before .before in
+    let a = y .before .before .args in (
       c .blank .ensures .1,
-      λ b r e h none.
-          let x = w .row .ensures .1 b r (a .water) h none in
-          (c .blank .ensures .0 ∙ ap blanks x, written-part (a .out .now) (p .put-line .last .0) _ (36 * a .i) (rw x at (printed p r e))),
+      λ b r w e f h none.
+          let x = y .row .ensures .1 b r w h none in
+          (c .blank .ensures .0 ∙ ap blanks x, written-part (a .out .now) (p .put-line .last .0) _ (36 * a .i) (rw x at (printed p r w e f))),
     )
 
 pub put-row-spec : {M : Type 1} → statement M
@@ -63,7 +60,6 @@ put-row-spec =
     sub-put-line
     part-put-line-start
     part-put-line-end
-    field-requires
     put-line-requires
     blank-requires
     same-length

@@ -17,11 +17,11 @@ use Rattle.page.proofs.put_rows.Statement.{statement}
 use Rattle.page.proofs.put_rows.Tie as tie
 
 abbrev Inv-loop : tie.InvT-loop
-Inv-loop s b out₀ t rears waters none₀ j₀ out none j =
+Inv-loop s b out₀ t rears waters fields none₀ j₀ out none j =
     (j ≤ rears) × (none ≤ j * waters) × (length out ≡ length out₀) × (none ≡ blanksTo s (plain b) (j * waters)) × (out ≡ written out₀ 0 (linesTo s (plain b) (j * waters)))
 
 abbrev μ-loop : tie.MeasureT-loop
-μ-loop s b out₀ t rears waters none₀ j₀ out none j = rears - j
+μ-loop s b out₀ t rears waters fields none₀ j₀ out none j = rears - j
 
 terms-of-requires : tie.Need-terms-of-requires Inv-loop μ-loop
 terms-of-requires c κs = c .before .pre .0
@@ -36,34 +36,39 @@ loads-requires-2 c κs =
     let a = accepted-sheet (c .before .before .before .args .s) (c .before .before .before .pre .0) in
     (a .steps .water .0, omega (arith, a .ranges .water))
 
+water-fields-requires : tie.Need-water-fields-requires Inv-loop μ-loop
+water-fields-requires c κs = (c .before .before .before .before .pre .0, c .loads2 .ensures .0)
+
 loop-holds : tie.Need-loop-holds Inv-loop μ-loop
 loop-holds c =
-    let a = c .before .before .before .before .args in
-    let z : 0 * c .loads2 .result ≡ 0 = zero-mul (c .loads2 .result) in
+    let l = c .before in
+    let a = l .before .before .before .before .args in
+    let z : 0 * l .loads2 .result ≡ 0 = zero-mul (l .loads2 .result) in
     (omega arith, omega arith, refl, none-blank (a .s) (plain (a .b)) ∙ ap (blanksTo (a .s) (plain (a .b))) (sym z), none-put (a .s) (plain (a .b)) (a .out .now) ∙ ap (λ (i : ℕ). written (a .out .now) 0 (linesTo (a .s) (plain (a .b)) i)) (sym z))
 
 put-group-requires : tie.Need-put-group-requires Inv-loop μ-loop
 put-group-requires c κs =
-    let i = c .before in
-    let m = i .before in
-    let l = m .before in
+    let m = c .before .before .before in
+    let f = m .before in
+    let l = f .before in
     let b = l .before .before .before .before in
-    (b .pre .0, l .before .before .terms-of .ensures, b .pre .1, l .loads2 .ensures .0, omega (arith, l .before .loads .ensures .0), omega (arith, b .pre .2, m .loop .inv .2))
+    (b .pre .0, l .before .before .terms-of .ensures, b .pre .1, l .loads2 .ensures .0, omega (arith, l .before .loads .ensures .0), f .water-fields .ensures, omega (arith, b .pre .2, m .loop .inv .2))
 
 -- the rows of the next group are among the sheet's, which has few
 module _ (c : tie.In-loop Inv-loop μ-loop) where
-  room : c .before .loop .j * c .before .before .loads2 .result + c .before .before .loads2 .result ≤ rowCount (c .before .before .before .before .before .before .args .s)
+  room : c .before .loop .j * c .before .before .before .loads2 .result + c .before .before .before .loads2 .result ≤ rowCount (c .before .before .before .before .before .before .before .args .s)
   room =
-      let l = c .before .before in
+      let l = c .before .before .before in
       group-room (l .before .before .before .before .args .s) (l .loads2 .result) (l .loads2 .ensures .0) (c .before .loop .j) (omega (arith, l .before .loads .ensures .0))
 
-  few : rowCount (c .before .before .before .before .before .before .args .s) ≤ 256
-  few = let b = c .before .before .before .before .before .before in accepted-sheet (b .args .s) (b .pre .0) .steps .rows
+  few : rowCount (c .before .before .before .before .before .before .before .args .s) ≤ 256
+  few = let b = c .before .before .before .before .before .before .before in accepted-sheet (b .args .s) (b .pre .0) .steps .rows
 
 add-none : tie.Need-add-none Inv-loop μ-loop
 add-none c =
     let p = c .before .before in
-    omega (arith, p .put-group .ensures .0, room (p .before .before), few (p .before .before))
+    let i = p .before .before .before in
+    omega (arith, p .put-group .ensures .0, room i, few i)
 
 add-j : tie.Need-add-j Inv-loop μ-loop
 add-j c = search needs
@@ -74,9 +79,9 @@ loop-less c = search needs
 loop-again : tie.Need-loop-again Inv-loop μ-loop
 loop-again c =
     let p = c .before .before in
-    let i = p .before .before in
+    let i = p .before .before .before in
     let m = i .before in
-    let l = m .before in
+    let l = m .before .before in
     let b = l .before .before .before .before in
     let a = b .args in
     let n = l .loads2 .result in
@@ -95,7 +100,7 @@ returns : tie.Need-returns Inv-loop μ-loop
 unfolding rowCount
 returns c =
     let m = c .before in
-    let l = m .before in
+    let l = m .before .before in
     let b = l .before .before .before .before in
     let a = b .args in
     let all : m .loop .j ≡ l .before .loads .result = omega arith in
@@ -113,6 +118,7 @@ put-rows-spec =
     terms-of-requires
     loads-requires
     loads-requires-2
+    water-fields-requires
     loop-holds
     put-group-requires
     add-none
