@@ -9,3 +9,4 @@ pub mod RecordCalls
 pub mod Buffers
 pub mod LibraryCalls
 pub mod Records
+pub mod Carrying

@@ -3,6 +3,7 @@ use aboard::Arms;
 use aboard::Laden;
 use balance::Balance;
 use limits::Seat;
+use paper::MOST_ROWS;
 use paper::Row;
 use paper::Sheet;
 use paper::Weight;
@@ -27,7 +28,7 @@ ghost use Rattle.group.specs.Shared.{TermsOf, FieldsOf};
 pub const LINE: usize = 36;
 
 // The most waters that a sheet has: each has a row.
-pub const WATERS: usize = 256;
+pub const WATERS: usize = MOST_ROWS as usize;
 
 // What all rows of a placard have in common: the arms, the front seat, and a step of water.
 pub struct Terms {

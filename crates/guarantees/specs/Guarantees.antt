@@ -8,7 +8,7 @@
 use mathlib.Core.Path.{_≡_}
 use mathlib.Core.Bool.{true}
 use mathlib.Core.List.{List}
-use Prim.Native.Nat.{ℕ, _≤_, _<_}
+use Prim.Native.Nat.{ℕ, _*_, _≤_, _<_}
 use lib.ListN.{length, getD, set, take}
 use denote.Ref.{RefT, now}
 use Rattle.laws.specs.Lists.{Each}
@@ -16,13 +16,21 @@ use Rattle.laws.specs.Splits.{split}
 use Rattle.paper.specs.declared.Entry.{Entry}
 use Rattle.paper.specs.declared.Placard.{Placard}
 use Rattle.paper.specs.declared.Row.the-variants.{Range}
+use Rattle.paper.specs.declared.Sheet.{Sheet}
 use Rattle.paper.specs.declared.Written.{Written}
+use Rattle.paper.specs.Rows.{momentBeside}
 use Rattle.paper.specs.Placard.{feed}
 use Rattle.paper.specs.File.{fileAs, fileBytes}
 use Rattle.paper.specs.Refusals.{accepted}
 use Rattle.paper.specs.Answers.{over}
 use Rattle.paper.specs.Journal.{Call, journal, numbers}
 use Rattle.format.specs.Files.{Allows}
+use Rattle.balance.specs.declared.Balance.{Balance}
+use Rattle.balance.specs.Balance.{plain}
+use Rattle.aboard.specs.declared.Laden.{Laden}
+use Rattle.aboard.specs.Aboard.{valueOf}
+use Rattle.group.specs.declared.Terms.{Terms}
+use Rattle.group.proofs.terms_of.Reads as terms-of
 use Rattle.record.specs.declared.Record.{Record}
 use Rattle.record.specs.declared.Kept.{Kept}
 use Rattle.record.specs.Held.{recordOf, heldBy}
@@ -53,6 +61,7 @@ use Rattle.claim.specs.RecordCalls as on-record
 use Rattle.claim.specs.Buffers.{call-renewed, read-renewed, room-for-all}
 use Rattle.claim.specs.LibraryCalls as of-library
 use Rattle.claim.specs.Records as records
+use Rattle.claim.specs.Carrying.{Carrying, row-moment}
 
 -- ---- the whole list
 
@@ -74,6 +83,15 @@ none-from-nought = claim.none-from-nought
 -- A list of calls leaves the record of its journal, whatever was refused on the way.
 pub journal-record : {calls : List Call} {r : Record} {answers : List ℕ} → on-record.Trace calls r answers → r ≡ recordOf (journal calls)
 journal-record = records.journal-record
+
+-- ---- rows
+
+-- The moment carried down the page to the k-th row beside a rear load, the first being the 0th, is M with that rear load and all
+-- of the row's water at their arms. It starts afresh with the rear load (`aboard::beside`) and goes on by the share of a step of
+-- water (`aboard::carried`).
+pub moment-carried : (s : Sheet) (t : Terms) → terms-of.Post tt (s, tt) t (s, tt) → (b : Balance) (rear : ℕ) {k : ℕ} {x : Laden} → Carrying t b rear k x
+    → valueOf (x .moment) ≡ momentBeside s (plain b) rear (k * s .water .step)
+moment-carried = row-moment
 
 -- ---- files
 

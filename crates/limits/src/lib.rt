@@ -88,10 +88,7 @@ fn weight_limit(span: Span, weight: u64, each: u64, most: u64) -> Span
             up: most,
             down: weight,
         },
-        Sides {
-            up: 0,
-            down: each,
-        },
+        Sides { up: 0, down: each },
     )
 }
 

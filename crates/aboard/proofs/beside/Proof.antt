@@ -43,12 +43,12 @@ returns c =
     let down : x .moment .down ≤ 65536000000000000 = rw (l .0) (b .fore) in
     let h = g .grams-at .ensures .0 in (
       rw (c .carried .ensures .0)
-      record {
-        weight = omega (arith, h .weight);
-        moment = record { up = omega (arith, h .moment .up); down = omega (arith, h .moment .down) };
-        forward = record { up = omega (arith, m .0 .up, h .forward .up); down = omega (arith, m .0 .down, h .forward .down) };
-        safe = record { up = omega (arith, m .1 .up, h .safe .up); down = omega (arith, m .1 .down, h .safe .down) };
-      },
+          record {
+            weight = omega (arith, h .weight);
+            moment = record { up = omega (arith, h .moment .up); down = omega (arith, h .moment .down) };
+            forward = record { up = omega (arith, m .0 .up, h .forward .up); down = omega (arith, m .0 .down, h .forward .down) };
+            safe = record { up = omega (arith, m .1 .up, h .safe .up); down = omega (arith, m .1 .down, h .safe .down) };
+          },
       λ s o.
           let empty : Stands s (plain (a .b) .total) (plain (a .b) .moment) x = rw (l .0) (stands-laid s (a .b .total) (record { up = a .b .aft; down = a .b .fore }) (a .a) o) in
           rw (c .carried .ensures .0) (beside-none s (plain (a .b)) (a .rear) x (g .grams-at .result) empty (rw (o .rear) at (g .grams-at .ensures .1 s o))),

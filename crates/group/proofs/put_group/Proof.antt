@@ -51,7 +51,7 @@ mul-rear : tie.Need-mul-rear Inv-loop μ-loop
 mul-rear c = omega (arith, rear-most (c .before .before))
 
 beside-requires : tie.Need-beside-requires Inv-loop μ-loop
-beside-requires c κs = let b = c .before .before in (b .pre .1 .arms .ranges, b .pre .2, rear-most b)
+beside-requires c κs = let b = c .before .before in (b .pre .1 .arms .ranges, b .pre .2, omega (arith, rear-most b))
 
 mul-with-none : tie.Need-mul-with-none Inv-loop μ-loop
 mul-with-none c = omega (arith, rear-most (c .before .before .before))

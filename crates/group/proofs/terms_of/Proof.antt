@@ -1,5 +1,6 @@
 -- `group::terms_of` meets its contract: what the calls say, put together. Assumes nothing.
 use borrow.Author.Needs.{needs}
+use native.Mathlib.Omega.{arith}
 use Rattle.sheet.proofs.Accepted.{accepted-sheet}
 use Rattle.group.proofs.terms_of.Statement.{statement}
 use Rattle.group.proofs.terms_of.Tie as tie
@@ -14,7 +15,8 @@ grams-at-requires : tie.Need-grams-at-requires
 grams-at-requires c κs =
     let a = c .before .arms-of .ensures .ranges in
     let b = c .before .before in
-    (accepted-sheet (b .args .s) (b .pre) .steps .water .1, a .water, a)
+    let steps = accepted-sheet (b .args .s) (b .pre) .steps in
+    (omega (arith, steps .water .1, steps .rear .1), a .water, a)
 
 returns : tie.Need-returns
 returns c =

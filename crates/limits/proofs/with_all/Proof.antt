@@ -38,7 +38,7 @@ behind : (c : tie.Else1) → ltZ (c .before .before .before .before .before .arg
 behind c = omega (arith, zs, back (fwd (c .before)), back (water (c .before)))
 
 mul-weight-limit : tie.Need-mul-weight-limit
-mul-weight-limit c = omega (arith, ranges (c .before) .wet)
+mul-weight-limit c = let r = ranges (c .before) in omega (arith, r .dry, r .wet)
 
 weight-limit-requires : tie.Need-weight-limit-requires
 weight-limit-requires c κs = search needs
