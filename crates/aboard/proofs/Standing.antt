@@ -1,9 +1,9 @@
 -- What is carried with a load more stands for the sums of both weights and both moments, since each line of it is linear.
 -- Assumes nothing.
-use mathlib.Core.Path.{_≡_, refl, sym, ap, _∙_, subst}
+use mathlib.Core.Path.{_≡_, refl, sym, _∙_}
 use Prim.Native.Nat.{ℕ, _+_, _*_, _≤_}
 use native.Mathlib.Omega.{arith}
-use lib.IntN.{ℤ, pos, _+ℤ_, _-ℤ_, _*ℤ_}
+use lib.IntN.{ℤ, pos, _+ℤ_, _*ℤ_}
 use Rattle.laws.specs.declared.Sides.{Sides}
 use Rattle.laws.specs.Z.{Is, is-nat, is-int, is-add, is-sub, is-mul, same}
 use Rattle.paper.specs.declared.Sheet.{Sheet}
@@ -13,7 +13,7 @@ use Rattle.paper.specs.Rows.{totalBeside, momentBeside}
 use Rattle.planes.proofs.Lines.{half-is, turned-is, beside-more-total, beside-more-moment}
 use Rattle.aboard.specs.declared.Arms.{Arms}
 use Rattle.aboard.specs.declared.Laden.{Laden}
-use Rattle.aboard.specs.Aboard.{valueOf, sumOf, timesOf, safeOf, safeArm, ArmsOf, laidOut, plus, scaled, Stands, Beside, LoadOf, room, Room, Share}
+use Rattle.aboard.specs.Aboard.{valueOf, sumOf, timesOf, safeOf, safeArm, ArmsOf, laidOut, plus, scaled, Stands, Beside, LoadOf, Room, Share}
 
 -- a number by its sides
 pub is-value : (x : Sides) → Is (valueOf x) (x .up) (x .down)

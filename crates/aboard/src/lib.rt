@@ -6,7 +6,6 @@ use paper::Sheet;
 use paper::Weight;
 ghost use mathlib.Core.Path.{_≡_};
 ghost use Prim.Native.Nat.{ℕ, _+_, _*_, _≤_};
-ghost use lib.IntN.{ℤ};
 ghost use Rattle.paper.specs.Record.{Balance as Plain};
 ghost use Rattle.paper.specs.Refusals.{firstNumber, sheetFaults};
 ghost use Rattle.balance.specs.Balance.{plain, Bounded};

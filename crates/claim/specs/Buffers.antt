@@ -77,9 +77,9 @@ fresh-leaves s e =
 
 module _ (n : ℕ) (es : List Entry) (s : List ℕ) (h : Holds n es s) (x : Call) where
   -- an accepted call, by whether there is room for the file
-  by-room : callNumber es x ≡ 0 → Leaves n (lentFile (acceptedCall es x) s) (writingNumber (acceptedCall es x) n) (cond (eqb (writingNumber (acceptedCall es x) n) 0) (acceptedCall es x) es)
+  by-margin : callNumber es x ≡ 0 → Leaves n (lentFile (acceptedCall es x) s) (writingNumber (acceptedCall es x) n) (cond (eqb (writingNumber (acceptedCall es x) n) 0) (acceptedCall es x) es)
   unfolding writingNumber firstNumber
-  by-room e =
+  by-margin e =
       let fs = acceptedCall es x in
       let a = call-accepted es x (held-accepted s es (h .list)) e in
       let m = length (fileBytes fs) in
@@ -95,7 +95,7 @@ module _ (n : ℕ) (es : List Entry) (s : List ℕ) (h : Holds n es s) (x : Call
 
   by-number : (t : Bool) → eqb (callNumber es x) 0 ≡ t
       → Leaves n (cond t (lentFile (acceptedCall es x) s) (callNumber es x, s)) (cond t (writingNumber (acceptedCall es x) n) (callNumber es x)) (cond (eqb (cond t (writingNumber (acceptedCall es x) n) (callNumber es x)) 0) (acceptedCall es x) es)
-  by-number true e = by-room (eqb-true (callNumber es x) 0 e)
+  by-number true e = by-margin (eqb-true (callNumber es x) 0 e)
   by-number false e = rw e (refl, h)
 
   by-list : Leaves n (lentBy (some es) x s) (numberIn n es x) (afterBy (numberIn n) es x)

@@ -2,7 +2,7 @@
 -- water at their arms. The hypotheses are the promises of the functions that `group::put_group` calls: `beside` starts afresh at a
 -- rear load, `carried` adds the share of a step of water. Assumes nothing.
 use mathlib.Core.Path.{_≡_}
-use Prim.Native.Nat.{ℕ, zero, _+_, _*_}
+use Prim.Native.Nat.{ℕ, _+_, _*_}
 use native.Mathlib.Nat.{add-mul, one-mul, zero-mul}
 use native.Mathlib.Omega.{arith}
 use Rattle.paper.specs.declared.Sheet.{Sheet}

@@ -6,7 +6,7 @@ ghost use lib.IntN.{pos, negsuc, _-ℤ_};
 ghost use lib.Signed.{_≤ℤ_, _<ℤ_};
 ghost use Rattle.laws.specs.Z.{SidesOf};
 
-// A signed number as what stands above 0 and below 0; one of the two is 0.
+// A signed number by two sides, the one less the other.
 pub struct Sides {
     pub up: u64,
     pub down: u64,
@@ -28,7 +28,7 @@ pub fn under(x: i64) -> u64
     size(-1 - x)
 }
 
-// The two sides of a number from -2000000 to 2000000.
+// The two sides of a number from -2000000 to 2000000; one of them is 0.
 pub fn split(x: i64) -> Sides
     requires { ⌜ (negsuc 1999999 ≤ℤ x) × (x ≤ℤ pos 2000000) ⌝ }
     ensures { λ r. ⌜ SidesOf x (r .up) (r .down) ⌝ }

@@ -1,6 +1,6 @@
 -- The paper's lines for a front load of k steps are orders of what the code carries: what is aboard with k steps more stands for
 -- the whole weight and moment, and a line is one order of its sides. Assumes nothing.
-use mathlib.Core.Path.{_≡_, refl, sym, ap, _∙_}
+use mathlib.Core.Path.{_≡_, refl, sym, _∙_}
 use mathlib.Core.Bool.{Bool, true, _&&_, _||_, and-assoc, and-true}
 use Prim.Native.Nat.{ℕ, zero, suc, _+_, _*_, _/_, _≤_, _<_}
 use native.Mathlib.Nat.{le-div-iff-mul-le}
@@ -16,12 +16,12 @@ use Rattle.paper.specs.declared.Sheet.{Sheet}
 use Rattle.paper.specs.Units.{halfGrams}
 use Rattle.paper.specs.Record.{Balance}
 use Rattle.paper.specs.Rows.{laden, atMost, lines, all, keepsAt}
-use Rattle.planes.proofs.Lines.{half-is, at-most, laden-on-total, laden-on-moment, laden-on-part}
+use Rattle.planes.proofs.Lines.{at-most, laden-on-total, laden-on-moment, laden-on-part}
 use Rattle.planes.proofs.Ends.{wetLine, fwdLine, aftLine, nlpLine, dryLine}
 use Rattle.aboard.specs.declared.Laden.{Laden}
 use Rattle.aboard.specs.Aboard.{safeArm, plus, scaled, Stands, Beside, LoadOf}
 use Rattle.aboard.proofs.Standing.{is-by, stands-plus, load-scaled}
-use Rattle.limits.specs.Seats.{forwardRoom, safeRoom, inSeat}
+use Rattle.limits.specs.Seats.{forwardMargin, safeMargin, inSeat}
 
 -- no half grams are no grams
 no-halves : (n : ℕ) → eqb n 0 ≡ eqb (2 * n) 0
@@ -56,13 +56,13 @@ module _ (s : Sheet) {t m : ℤ} (x : Laden) (h : Stands s t m x) where
   weight-test : (most : ℕ) → atMost most t ≡ leb (x .weight) (2 * most + 0)
   weight-test most = at-most (weight-is x h) most
 
-  fwd-test : leZ (s .fwd *ℤ t) m ≡ leb (forwardRoom x .down) (forwardRoom x .up)
+  fwd-test : leZ (s .fwd *ℤ t) m ≡ leb (forwardMargin x .down) (forwardMargin x .up)
   fwd-test =
-      leZ-test (is-by (x .forward) (h .forward)) (is-by (x .moment) (h .moment)) (forwardRoom x .down) (forwardRoom x .up) (omega arith)
+      leZ-test (is-by (x .forward) (h .forward)) (is-by (x .moment) (h .moment)) (forwardMargin x .down) (forwardMargin x .up) (omega arith)
 
-  aft-test : leZ (pos 20 *ℤ m) (safeArm s *ℤ t) ≡ leb (safeRoom x .down) (safeRoom x .up)
+  aft-test : leZ (pos 20 *ℤ m) (safeArm s *ℤ t) ≡ leb (safeMargin x .down) (safeMargin x .up)
   aft-test =
-      leZ-test (is-mul (is-nat 20) (is-by (x .moment) (h .moment))) (is-by (x .safe) (h .safe)) (safeRoom x .down) (safeRoom x .up) (omega arith)
+      leZ-test (is-mul (is-nat 20) (is-by (x .moment) (h .moment))) (is-by (x .safe) (h .safe)) (safeMargin x .down) (safeMargin x .up) (omega arith)
 
 -- ---- and with k steps more
 
@@ -72,10 +72,10 @@ module _ (x y : Laden) (k : ℕ) where
   weightTest most = leb (x .weight + y .weight * k) (2 * most)
 
   abbrev pub fwdTest : Bool
-  fwdTest = leb (forwardRoom x .down + forwardRoom y .down * k) (forwardRoom x .up + forwardRoom y .up * k)
+  fwdTest = leb (forwardMargin x .down + forwardMargin y .down * k) (forwardMargin x .up + forwardMargin y .up * k)
 
   abbrev pub aftTest : Bool
-  aftTest = leb (safeRoom x .down + safeRoom y .down * k) (safeRoom x .up + safeRoom y .up * k)
+  aftTest = leb (safeMargin x .down + safeMargin y .down * k) (safeMargin x .up + safeMargin y .up * k)
 
 module _ (s : Sheet) (b : Balance) (r v : ℕ) (x y : Laden) (h : Beside s b r v x) (l : LoadOf s (s .front .step) (s .front .arm) y) (k : ℕ) where
   abbrev load : ℕ
@@ -92,14 +92,14 @@ module _ (s : Sheet) (b : Balance) (r v : ℕ) (x y : Laden) (h : Beside s b r v
       ∙ leb-by (x .weight + k * y .weight) (2 * most + 0) (x .weight + y .weight * k) (2 * most) (omega arith) (omega arith) refl
 
   -- the order of two sides, with the steps counted apart
-  by-room : (room : Laden → Sides) → room (plus x (scaled k y)) .down ≡ room x .down + room y .down * k → room (plus x (scaled k y)) .up ≡ room x .up + room y .up * k → leb (room (plus x (scaled k y)) .down) (room (plus x (scaled k y)) .up) ≡ leb (room x .down + room y .down * k) (room x .up + room y .up * k)
-  by-room room e f = rw (e, f)
+  by-margin : (margin : Laden → Sides) → margin (plus x (scaled k y)) .down ≡ margin x .down + margin y .down * k → margin (plus x (scaled k y)) .up ≡ margin x .up + margin y .up * k → leb (margin (plus x (scaled k y)) .down) (margin (plus x (scaled k y)) .up) ≡ leb (margin x .down + margin y .down * k) (margin x .up + margin y .up * k)
+  by-margin margin e f = rw (e, f)
 
   pub fwd-line : fwdLine s b r load v ≡ fwdTest x y k
-  fwd-line = fwd-test s (plus x (scaled k y)) whole ∙ by-room forwardRoom (omega arith) (omega arith)
+  fwd-line = fwd-test s (plus x (scaled k y)) whole ∙ by-margin forwardMargin (omega arith) (omega arith)
 
   pub aft-line : aftLine s b r load v ≡ aftTest x y k
-  aft-line = aft-test s (plus x (scaled k y)) whole ∙ by-room safeRoom (omega arith) (omega arith)
+  aft-line = aft-test s (plus x (scaled k y)) whole ∙ by-margin safeMargin (omega arith) (omega arith)
 
   -- n is the non-lifting weight with the rear load aboard
   pub nlp-line : (n : ℕ) → pos n ≡ b .nonLifting +ℤ halfGrams (pos r) → nlpLine s b r load v ≡ (eqb (2 * s .nlp) 0 || leb (n + y .weight * k) (2 * s .nlp))

@@ -13,12 +13,12 @@ use Rattle.solver.specs.declared.Span.{Span}
 use Rattle.solver.specs.Span.{within}
 use Rattle.limits.specs.declared.Seat.{Seat}
 
--- the moment less FWD's, and 20 times the safe aft limit's less 20 times the moment
-abbrev pub forwardRoom : Laden → Sides
-forwardRoom x = record { up = x .moment .up + x .forward .down; down = x .moment .down + x .forward .up }
+-- the margins of the moment: the moment less FWD's; 20 times the safe aft limit's less 20 times the moment
+abbrev pub forwardMargin : Laden → Sides
+forwardMargin x = record { up = x .moment .up + x .forward .down; down = x .moment .down + x .forward .up }
 
-abbrev pub safeRoom : Laden → Sides
-safeRoom x = record { up = 20 * x .moment .down + x .safe .up; down = 20 * x .moment .up + x .safe .down }
+abbrev pub safeMargin : Laden → Sides
+safeMargin x = record { up = 20 * x .moment .down + x .safe .up; down = 20 * x .moment .up + x .safe .down }
 
 -- k steps are a load from the least to the greatest
 abbrev pub inSeat : Sheet → ℕ → Bool

@@ -13,11 +13,10 @@ ghost use lib.Dec.{leb, eqb};
 ghost use lib.IntN.{pos, _+ℤ_};
 ghost use Rattle.paper.specs.Units.{halfGrams};
 ghost use Rattle.paper.specs.Record.{Balance};
-ghost use Rattle.paper.specs.Rows.{keepsAt, upTo};
 ghost use Rattle.paper.specs.Refusals.{firstNumber, sheetFaults};
 ghost use Rattle.aboard.specs.Aboard.{ArmsOf, Beside, Room};
 ghost use Rattle.solver.specs.Span.{within};
-ghost use Rattle.limits.specs.Seats.{forwardRoom, safeRoom, inSeat, SeatOf, Seated, NoneOf, AllOf};
+ghost use Rattle.limits.specs.Seats.{forwardMargin, safeMargin, inSeat, SeatOf, Seated, NoneOf, AllOf};
 
 // The front seat: the numbers of steps that there are, and what a step weighs and turns.
 pub struct Seat {
@@ -25,10 +24,10 @@ pub struct Seat {
     pub step: Laden,
 }
 
-// What the moment is behind FWD, by two sides.
-fn forward_room(x: Laden) -> Sides
+// The margin to FWD: the moment less the one that FWD has at that weight.
+fn forward_margin(x: Laden) -> Sides
     requires { ⌜ Room 256 x ⌝ }
-    ensures { λ r. ⌜ r ≡ forwardRoom x ⌝ }
+    ensures { λ r. ⌜ r ≡ forwardMargin x ⌝ }
 {
     Sides {
         up: x.moment.up + x.forward.down,
@@ -36,10 +35,10 @@ fn forward_room(x: Laden) -> Sides
     }
 }
 
-// What 20 times the moment is ahead of 20 times the safe aft limit's.
-fn safe_room(x: Laden) -> Sides
+// The margin to the safe aft limit, twenty times: its moment at that weight less the moment.
+fn safe_margin(x: Laden) -> Sides
     requires { ⌜ Room 256 x ⌝ }
-    ensures { λ r. ⌜ r ≡ safeRoom x ⌝ }
+    ensures { λ r. ⌜ r ≡ safeMargin x ⌝ }
 {
     Sides {
         up: 20 * x.moment.down + x.safe.up,
@@ -111,8 +110,8 @@ pub fn with_none(s: Sheet, q: Seat, x: Laden, nonlifting: u64) -> Span
     let span = weight_limit(q.steps, x.weight, each, Weight::HALVES * s.dry);
     let span = weight_limit(span, x.weight, each, Weight::HALVES * s.wet);
     let span = non_lifting_limit(span, nonlifting, each, Weight::HALVES * s.nlp);
-    let span = solver::narrow(span, forward_room(x), forward_room(q.step));
-    solver::narrow(span, safe_room(x), safe_room(q.step))
+    let span = solver::narrow(span, forward_margin(x), forward_margin(q.step));
+    solver::narrow(span, safe_margin(x), safe_margin(q.step))
 }
 
 // Those of them that keep every limit with all of the water aboard, and so with every part: water works against FWD where it
@@ -123,7 +122,7 @@ pub fn with_all(s: Sheet, q: Seat, span: Span, x: Laden) -> Span
 {
     let span = weight_limit(span, x.weight, q.step.weight, Weight::HALVES * s.wet);
     if s.water.arm < s.fwd {
-        return solver::narrow(span, forward_room(x), forward_room(q.step));
+        return solver::narrow(span, forward_margin(x), forward_margin(q.step));
     }
-    solver::narrow(span, safe_room(x), safe_room(q.step))
+    solver::narrow(span, safe_margin(x), safe_margin(q.step))
 }

@@ -1,6 +1,6 @@
 -- With all of the water aboard two lines are left to judge once every line holds with none of it: that of WET, and one of the
 -- moment's. Water works against FWD where its arm lies ahead of it, and else only against the safe aft limit. Assumes nothing.
-use mathlib.Core.Path.{_≡_, sym, ap, _∙_}
+use mathlib.Core.Path.{_≡_, sym, _∙_}
 use mathlib.Core.Bool.{Bool, true, false, _&&_, _||_}
 use Prim.Native.Nat.{ℕ, _+_, _*_, _≤_}
 use native.Mathlib.Nat.{mul-le-mul-left}

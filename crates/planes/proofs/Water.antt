@@ -1,12 +1,10 @@
 -- A half-plane that holds with no water and with all of it holds with every part of it, since both its sides grow evenly.
 -- Assumes nothing.
-use Prim.Native.Nat.{ℕ, zero, suc, _+_, _*_, _≤_, _<_}
-use mathlib.Core.Path.{_≡_, refl, sym, _∙_, ap}
-use mathlib.Core.Bool.{Bool, true, _&&_, and-assoc, and-comm}
+use Prim.Native.Nat.{ℕ, _+_, _*_, _≤_}
+use mathlib.Core.Path.{_≡_, refl}
+use mathlib.Core.Bool.{Bool, true, _&&_}
 use mathlib.Core.List.{List, [], _∷_}
-use native.Mathlib.Numerals.{add-one}
 use native.Mathlib.Omega.{arith}
-use lib.ListN.{length, take, getD}
 use borrow.Author.Tests.{leb-true, le-leb}
 use Rattle.laws.specs.Tests.{same, both, left, right}
 use Rattle.laws.specs.Slopes as slopes
@@ -59,16 +57,3 @@ all-hold-more l ls p w = up-to-both (holds l p) (allHold ls p) w
 pub all-hold-none : (p w : ℕ) → upTo (allHold [] p) w ≡ true
 unfolding allHold
 all-hold-none p w = up-to (allHold [] p) w (λ v h. refl)
-
--- the first i of them and the next
-all-hold-suc : (ls : List HalfPlane) (i : ℕ) (d : HalfPlane) (p w : ℕ) → i < length ls → upTo (allHold (take (suc i) ls) p) w ≡ (upTo (allHold (take i ls) p) w && upTo (holds (getD ls i d) p) w)
-all-hold-suc [] i d p w h = absurd (omega arith)
-all-hold-suc (l ∷ ls) zero d p w h = all-hold-more l [] p w ∙ and-comm (upTo (holds l p) w) (upTo (allHold [] p) w)
-all-hold-suc (l ∷ ls) (suc i) d p w h =
-    let a = upTo (holds l p) w in
-    let b = upTo (allHold (take i ls) p) w in
-    let c = upTo (holds (getD ls i d) p) w in
-    all-hold-more l (take (suc i) ls) p w ∙ ap (λ (x : Bool). a && x) (all-hold-suc ls i d p w (omega arith)) ∙ sym (and-assoc a b c) ∙ ap (λ (x : Bool). x && c) (sym (all-hold-more l (take i ls) p w))
-
-pub all-hold-take : (ls : List HalfPlane) (i : ℕ) (d : HalfPlane) (p w : ℕ) → i < length ls → upTo (allHold (take (i + 1) ls) p) w ≡ (upTo (allHold (take i ls) p) w && upTo (holds (getD ls i d) p) w)
-all-hold-take ls i d p w h = rw (add-one i) (all-hold-suc ls i d p w h)

@@ -1,13 +1,12 @@
 -- The row of the steps that keep every limit with every part of the water is the paper's row: the two tests of a front load are
 -- the same. Assumes nothing.
-use mathlib.Core.Path.{_≡_, refl, sym, ap, _∙_}
-use mathlib.Core.Bool.{Bool, true, false, _&&_, and-assoc}
-use Prim.Native.Nat.{ℕ, _*_, _/_, _%_, _≤_, _<_}
+use mathlib.Core.Path.{_≡_, refl, sym, _∙_}
+use mathlib.Core.Bool.{Bool, true, false, _&&_}
+use Prim.Native.Nat.{ℕ, _*_, _/_, _%_, _≤_}
 use native.Mathlib.Nat.{div-add-mod'}
 use native.Mathlib.Omega.{arith}
 use lib.Dec.{leb, eqb}
 use borrow.Author.Tests.{eqb-true}
-use Rattle.laws.specs.Tests.{left, span-hi}
 use Rattle.paper.specs.declared.Row.{Row}
 use Rattle.paper.specs.declared.Row.the-variants.{Range, Blank}
 use Rattle.paper.specs.declared.Sheet.{Sheet}
@@ -18,7 +17,7 @@ use Rattle.planes.proofs.Searches.{found, row-of-same}
 use Rattle.planes.proofs.Rows.{keeps-is}
 use Rattle.solver.specs.declared.Span.{Span}
 use Rattle.solver.specs.Span.{within, stepIn}
-use Rattle.limits.specs.Seats.{inSeat, AllOf}
+use Rattle.limits.specs.Seats.{AllOf}
 
 module _ (s : Sheet) (b : Balance) (r w : ℕ) (x : Span) (all : AllOf s b r w x) where
   abbrev step : ℕ

@@ -1,6 +1,6 @@
 -- A span narrowed by an order, and the row of the steps in it. Assumes nothing.
 use Prim.Native.Nat.{ℕ, _+_, _*_, _/_, _%_, _≤_, _<_}
-use mathlib.Core.Path.{_≡_, sym, _∙_, ap}
+use mathlib.Core.Path.{_≡_, sym}
 use mathlib.Core.Bool.{true, _&&_}
 use native.Mathlib.Nat.{mul-mod-left, mul-div-cancel, div-add-mod', mul-le-mul-right, le-refl}
 use native.Mathlib.Omega.{arith}

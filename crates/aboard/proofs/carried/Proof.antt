@@ -1,7 +1,5 @@
 -- `aboard::carried` meets its contract: the sums as they stand, and what a sum stands for. Assumes nothing.
-use mathlib.Core.Path.{_≡_, _∙_}
 use borrow.Author.Needs.{needs}
-use Rattle.aboard.specs.Aboard.{plus}
 use Rattle.aboard.proofs.Standing.{beside-more}
 use Rattle.aboard.proofs.carried.Statement.{statement}
 use Rattle.aboard.proofs.carried.Tie as tie

@@ -1,6 +1,5 @@
 -- `aboard::turned` meets its contract: a product of bounds bounds the product. Assumes nothing.
 use mathlib.Core.Path.{refl}
-use Prim.Native.Nat.{_*_, _≤_}
 use native.Mathlib.Nat.{mul-le-mul}
 use native.Mathlib.Omega.{arith}
 use Rattle.aboard.proofs.turned.Statement.{statement}

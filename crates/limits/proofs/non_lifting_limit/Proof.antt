@@ -1,5 +1,5 @@
 -- `limits::non_lifting_limit` meets its contract: a limit of 0 holds always, another as `weight_limit` says. Assumes nothing.
-use mathlib.Core.Path.{_≡_, sym}
+use mathlib.Core.Path.{_≡_}
 use mathlib.Core.Bool.{true, false, and-true}
 use borrow.Author.Needs.{needs}
 use borrow.Author.Tests.{eq-eqb, ne-eqb}

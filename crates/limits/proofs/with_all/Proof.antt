@@ -43,11 +43,11 @@ mul-weight-limit c = let r = ranges (c .before) in omega (arith, r .dry, r .wet)
 weight-limit-requires : tie.Need-weight-limit-requires
 weight-limit-requires c κs = search needs
 
-forward-room-requires : tie.Need-forward-room-requires
-forward-room-requires c κs = search needs
+forward-margin-requires : tie.Need-forward-margin-requires
+forward-margin-requires c κs = search needs
 
-forward-room-requires-2 : tie.Need-forward-room-requires-2
-forward-room-requires-2 c κs =
+forward-margin-requires-2 : tie.Need-forward-margin-requires-2
+forward-margin-requires-2 c κs =
     let b = c .before .before .before .before .before .before in
     share-room (b .args .q .step) (b .pre .1 .share)
 
@@ -56,8 +56,8 @@ narrow-requires c κs = search needs
 
 returns : tie.Need-returns
 returns c =
-    let room = c .before in
-    let t = room .before .before in
+    let margin = c .before in
+    let t = margin .before .before in
     let wet = t .before .before .before in
     let b = wet .before .before in
     let a = b .args in
@@ -67,7 +67,7 @@ returns c =
     let line : ℕ → Bool = λ k. fwdTest (a .x) y k in
     let wets : ℕ → Bool = λ k. weightTest (a .x) y k (s .wet) in
     let e : (k : ℕ) → within (c .narrow .result) k ≡ ((within (a .span) k && wets k) && line k) =
-    λ k. rw (room .before .forward-room .ensures, room .forward-room2 .ensures, wet .weight-limit .ensures k) at (c .narrow .ensures k) in (
+    λ k. rw (margin .before .forward-margin .ensures, margin .forward-margin2 .ensures, wet .weight-limit .ensures k) at (c .narrow .ensures k) in (
       λ k h. left (within (a .span) k) (wets k) (left (within (a .span) k && wets k) (line k) (sym (e k) ∙ h)),
       λ g rear w h none k.
           let p = k * s .front .step in
@@ -76,11 +76,11 @@ returns c =
           (rw (← weight-line s g rear w (a .x) y h (q .step) k (s .wet), ← fwd-line s g rear w (a .x) y h (q .step) k) (ends-ahead s g rear p w (ahead t) (ranges b .limits))),
     )
 
-safe-room-requires : tie.Need-safe-room-requires
-safe-room-requires c κs = search needs
+safe-margin-requires : tie.Need-safe-margin-requires
+safe-margin-requires c κs = search needs
 
-safe-room-requires-2 : tie.Need-safe-room-requires-2
-safe-room-requires-2 c κs =
+safe-margin-requires-2 : tie.Need-safe-margin-requires-2
+safe-margin-requires-2 c κs =
     let b = c .before .before .before .before .before .before in
     share-room (b .args .q .step) (b .pre .1 .share)
 
@@ -89,8 +89,8 @@ narrow-requires-2 c κs = search needs
 
 returns-2 : tie.Need-returns-2
 returns-2 c =
-    let room = c .before in
-    let t = room .before .before in
+    let margin = c .before in
+    let t = margin .before .before in
     let wet = t .before .before .before in
     let b = wet .before .before in
     let a = b .args in
@@ -100,7 +100,7 @@ returns-2 c =
     let line : ℕ → Bool = λ k. aftTest (a .x) y k in
     let wets : ℕ → Bool = λ k. weightTest (a .x) y k (s .wet) in
     let e : (k : ℕ) → within (c .narrow2 .result) k ≡ ((within (a .span) k && wets k) && line k) =
-    λ k. rw (room .before .safe-room .ensures, room .safe-room2 .ensures, wet .weight-limit .ensures k) at (c .narrow2 .ensures k) in (
+    λ k. rw (margin .before .safe-margin .ensures, margin .safe-margin2 .ensures, wet .weight-limit .ensures k) at (c .narrow2 .ensures k) in (
       λ k h. left (within (a .span) k) (wets k) (left (within (a .span) k && wets k) (line k) (sym (e k) ∙ h)),
       λ g rear w h none k.
           let p = k * s .front .step in
@@ -115,11 +115,11 @@ with-all-spec =
     (tie.spec
     mul-weight-limit
     weight-limit-requires
-    forward-room-requires
-    forward-room-requires-2
+    forward-margin-requires
+    forward-margin-requires-2
     narrow-requires
     returns
-    safe-room-requires
-    safe-room-requires-2
+    safe-margin-requires
+    safe-margin-requires-2
     narrow-requires-2
     returns-2)

@@ -35,22 +35,22 @@ mul-non-lifting-limit c = omega (arith, ranges (c .before .before .before .befor
 non-lifting-limit-requires : tie.Need-non-lifting-limit-requires
 non-lifting-limit-requires c κs = search needs
 
-forward-room-requires : tie.Need-forward-room-requires
-forward-room-requires c κs = search needs
+forward-margin-requires : tie.Need-forward-margin-requires
+forward-margin-requires c κs = search needs
 
-forward-room-requires-2 : tie.Need-forward-room-requires-2
-forward-room-requires-2 c κs =
+forward-margin-requires-2 : tie.Need-forward-margin-requires-2
+forward-margin-requires-2 c κs =
     let b = c .before .before .before .before .before .before .before in
     share-room (b .args .q .step) (b .pre .1 .share)
 
 narrow-requires : tie.Need-narrow-requires
 narrow-requires c κs = search needs
 
-safe-room-requires : tie.Need-safe-room-requires
-safe-room-requires c κs = search needs
+safe-margin-requires : tie.Need-safe-margin-requires
+safe-margin-requires c κs = search needs
 
-safe-room-requires-2 : tie.Need-safe-room-requires-2
-safe-room-requires-2 c κs =
+safe-margin-requires-2 : tie.Need-safe-margin-requires-2
+safe-margin-requires-2 c κs =
     let b = c .before .before .before .before .before .before .before .before .before .before in
     share-room (b .args .q .step) (b .pre .1 .share)
 
@@ -73,8 +73,8 @@ returns c =
     let part : ℕ → Bool = λ k. eqb (2 * s .nlp) 0 || leb (a .nonlifting + y .weight * k) (2 * s .nlp) in
     let e : (k : ℕ) → within (c .narrow2 .result) k ≡ ((((((inSeat s k && leb 1 (k * s .front .step)) && weightTest (a .x) y k (s .dry)) && weightTest (a .x) y k (s .wet)) && part k) && fwdTest (a .x) y k) && aftTest (a .x) y k) =
     λ k.
-    let e₅ = rw (safe .before .safe-room .ensures, safe .safe-room2 .ensures) at (c .narrow2 .ensures k) in
-    let e₄ = rw (forward .before .forward-room .ensures, forward .forward-room2 .ensures) at (f .narrow .ensures k) in
+    let e₅ = rw (safe .before .safe-margin .ensures, safe .safe-margin2 .ensures) at (c .narrow2 .ensures k) in
+    let e₄ = rw (forward .before .forward-margin .ensures, forward .forward-margin2 .ensures) at (f .narrow .ensures k) in
     rw (e₄, nlp .non-lifting-limit .ensures k, wet .weight-limit2 .ensures k, dry .weight-limit .ensures k, q .steps k) at e₅ in (
       λ k. first-of (within (c .narrow2 .result) k) (inSeat s k) (leb 1 (k * s .front .step)) (weightTest (a .x) y k (s .dry)) (weightTest (a .x) y k (s .wet)) (part k) (fwdTest (a .x) y k) (aftTest (a .x) y k) (e k),
       λ g rear h n k.
@@ -97,10 +97,10 @@ with-none-spec =
     weight-limit-requires-2
     mul-non-lifting-limit
     non-lifting-limit-requires
-    forward-room-requires
-    forward-room-requires-2
+    forward-margin-requires
+    forward-margin-requires-2
     narrow-requires
-    safe-room-requires
-    safe-room-requires-2
+    safe-margin-requires
+    safe-margin-requires-2
     narrow-requires-2
     returns)
