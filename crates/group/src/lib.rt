@@ -61,11 +61,10 @@ fn blank(x: Row) -> usize
 }
 
 // The fields of the waters, each made once for all rear loads.
-pub fn water_fields(s: Sheet, waters: usize) -> [u64; WATERS]
-    requires { ⌜ (firstNumber (sheetFaults s) ≡ 0) × (waters ≡ Numbered·waters s) ⌝ }
-    ensures { λ fields. ⌜ FieldsOf s waters fields ⌝ }
+pub fn put_fields(s: Sheet, waters: usize, fields: &mut [u64; WATERS])
+    requires { ⌜ (firstNumber (sheetFaults s) ≡ 0) × (waters ≡ Numbered·waters s) × (length (now fields) ≡ 256) ⌝ }
+    ensures { λ _. ⌜ FieldsOf s waters (now (fields .exit)) ⌝ }
 {
-    let mut fields = [0; WATERS];
     let mut water = 0;
     let mut k = 0;
     while k < waters {
@@ -73,7 +72,6 @@ pub fn water_fields(s: Sheet, waters: usize) -> [u64; WATERS]
         water += s.water.step;
         k += 1;
     }
-    fields
 }
 
 // The line of a row, as the i-th: behind the lines before it. Rear load and water come as their fields; both are aboard x, and a

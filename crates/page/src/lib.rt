@@ -1,6 +1,7 @@
 // The placard of a balance and a sheet: a line for each row, into a lent buffer.
 use balance::Balance;
 use group::LINE;
+use group::WATERS;
 use judge::Standing;
 use paper::Placard;
 use paper::Sheet;
@@ -30,7 +31,8 @@ fn put_rows(s: Sheet, b: Balance, out: &mut [u8]) -> usize
     let t = group::terms_of(s);
     let rears = sheet::loads(s.rear) as usize;
     let waters = sheet::loads(s.water) as usize;
-    let fields = group::water_fields(s, waters);
+    let mut fields = [line::field(0); WATERS];
+    group::put_fields(s, waters, &mut fields);
     let mut none = 0;
     let mut j = 0;
     while j < rears {

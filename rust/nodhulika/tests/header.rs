@@ -1,5 +1,6 @@
 //! The header for C: it compiles without a warning, its inline functions are
-//! right, and the example for C prints its plates.
+//! right, and the example for C prints its plates. And the archive, which calls
+//! nothing outside of itself.
 
 use std::env;
 use std::path::Path;
@@ -62,4 +63,18 @@ weighed twice: 288000.5 g, centre of gravity 63334
 the record's file has 119 bytes
 ";
     assert_eq!(String::from_utf8_lossy(&output.stdout), plates);
+}
+
+/// A handheld may have no C library: not even what compilers call by themselves,
+/// as `memcpy`.
+#[test]
+fn the_archive_calls_nothing() {
+    let output = Command::new("nm")
+        .args(["--undefined-only", env!("NODHULIKA_ARCHIVE")])
+        .output()
+        .expect("nm runs, which comes with the C compiler");
+    assert!(output.status.success());
+    let listed = String::from_utf8_lossy(&output.stdout);
+    let calls: Vec<&str> = listed.lines().filter(|line| line.contains(" U ")).collect();
+    assert!(calls.is_empty(), "{calls:?}");
 }

@@ -5,7 +5,7 @@ use mathlib.Core.Path.{_≡_, refl, sym, ap, _∙_}
 use Prim.Native.Nat.{ℕ, _+_, _*_, _-_, _≤_}
 use native.Mathlib.Nat.{add-mul, one-mul, zero-mul}
 use native.Mathlib.Omega.{arith}
-use lib.ListN.{length}
+use lib.ListN.{length, length-replicate}
 use Rattle.laws.specs.Written.{written}
 use Rattle.paper.specs.Rows.{rowCount}
 use Rattle.sheet.proofs.Accepted.{accepted-sheet}
@@ -36,12 +36,17 @@ loads-requires-2 c κs =
     let a = accepted-sheet (c .before .before .before .args .s) (c .before .before .before .pre .0) in
     (a .steps .water .0, omega (arith, a .ranges .water))
 
-water-fields-requires : tie.Need-water-fields-requires Inv-loop μ-loop
-water-fields-requires c κs = (c .before .before .before .before .pre .0, c .loads2 .ensures .0)
+field-requires : tie.Need-field-requires Inv-loop μ-loop
+field-requires c κs = omega arith
+
+put-fields-requires : tie.Need-put-fields-requires Inv-loop μ-loop
+put-fields-requires c κs =
+    let l = c .before .before in
+    (l .before .before .before .before .pre .0, l .loads2 .ensures .0, length-replicate 256 (c .before .field .result))
 
 loop-holds : tie.Need-loop-holds Inv-loop μ-loop
 loop-holds c =
-    let l = c .before in
+    let l = c .before .before .before in
     let a = l .before .before .before .before .args in
     let z : 0 * l .loads2 .result ≡ 0 = zero-mul (l .loads2 .result) in
     (omega arith, omega arith, refl, none-blank (a .s) (plain (a .b)) ∙ ap (blanksTo (a .s) (plain (a .b))) (sym z), none-put (a .s) (plain (a .b)) (a .out .now) ∙ ap (λ (i : ℕ). written (a .out .now) 0 (linesTo (a .s) (plain (a .b)) i)) (sym z))
@@ -50,19 +55,19 @@ put-group-requires : tie.Need-put-group-requires Inv-loop μ-loop
 put-group-requires c κs =
     let m = c .before .before .before in
     let f = m .before in
-    let l = f .before in
+    let l = f .before .before .before in
     let b = l .before .before .before .before in
-    (b .pre .0, l .before .before .terms-of .ensures, b .pre .1, l .loads2 .ensures .0, omega (arith, l .before .loads .ensures .0), f .water-fields .ensures, omega (arith, b .pre .2, m .loop .inv .2))
+    (b .pre .0, l .before .before .terms-of .ensures, b .pre .1, l .loads2 .ensures .0, omega (arith, l .before .loads .ensures .0), f .put-fields .ensures, omega (arith, b .pre .2, m .loop .inv .2))
 
 -- the rows of the next group are among the sheet's, which has few
 module _ (c : tie.In-loop Inv-loop μ-loop) where
-  room : c .before .loop .j * c .before .before .before .loads2 .result + c .before .before .before .loads2 .result ≤ rowCount (c .before .before .before .before .before .before .before .args .s)
+  room : c .before .loop .j * c .before .before .before .before .before .loads2 .result + c .before .before .before .before .before .loads2 .result ≤ rowCount (c .before .before .before .before .before .before .before .before .before .args .s)
   room =
-      let l = c .before .before .before in
+      let l = c .before .before .before .before .before in
       group-room (l .before .before .before .before .args .s) (l .loads2 .result) (l .loads2 .ensures .0) (c .before .loop .j) (omega (arith, l .before .loads .ensures .0))
 
-  few : rowCount (c .before .before .before .before .before .before .before .args .s) ≤ 256
-  few = let b = c .before .before .before .before .before .before .before in accepted-sheet (b .args .s) (b .pre .0) .steps .rows
+  few : rowCount (c .before .before .before .before .before .before .before .before .before .args .s) ≤ 256
+  few = let b = c .before .before .before .before .before .before .before .before .before in accepted-sheet (b .args .s) (b .pre .0) .steps .rows
 
 add-none : tie.Need-add-none Inv-loop μ-loop
 add-none c =
@@ -81,7 +86,7 @@ loop-again c =
     let p = c .before .before in
     let i = p .before .before .before in
     let m = i .before in
-    let l = m .before .before in
+    let l = m .before .before .before .before in
     let b = l .before .before .before .before in
     let a = b .args in
     let n = l .loads2 .result in
@@ -100,7 +105,7 @@ returns : tie.Need-returns Inv-loop μ-loop
 unfolding rowCount
 returns c =
     let m = c .before in
-    let l = m .before .before in
+    let l = m .before .before .before .before in
     let b = l .before .before .before .before in
     let a = b .args in
     let all : m .loop .j ≡ l .before .loads .result = omega arith in
@@ -118,7 +123,8 @@ put-rows-spec =
     terms-of-requires
     loads-requires
     loads-requires-2
-    water-fields-requires
+    field-requires
+    put-fields-requires
     loop-holds
     put-group-requires
     add-none

@@ -1,14 +1,14 @@
--- `group::water_fields` meets its contract. The loop's invariant: the fields of the first k waters are made. Assumes nothing.
+-- `group::put_fields` meets its contract. The loop's invariant: the fields of the first k waters are made. Assumes nothing.
 use mathlib.Core.Path.{_≡_}
-use Prim.Native.Nat.{ℕ, _*_, _-_, _≤_}
+use Prim.Native.Nat.{_*_, _-_, _≤_}
 use native.Mathlib.Nat.{add-mul, one-mul}
 use native.Mathlib.Omega.{arith}
-use lib.ListN.{length, length-set, length-replicate}
+use lib.ListN.{length, length-set}
 use Rattle.sheet.proofs.Accepted.{accepted-sheet}
 use Rattle.group.specs.Shared.{FieldsOf}
 use Rattle.group.proofs.Buffer.{water-in, group-room, fields-more}
-use Rattle.group.proofs.water_fields.Statement.{statement}
-use Rattle.group.proofs.water_fields.Tie as tie
+use Rattle.group.proofs.put_fields.Statement.{statement}
+use Rattle.group.proofs.put_fields.Tie as tie
 
 abbrev Inv-loop : tie.InvT-loop
 Inv-loop s waters fields₀ water₀ k₀ fields water k =
@@ -30,7 +30,7 @@ most c =
     omega (arith, w, accepted-sheet (b .args .s) (b .pre .0) .ranges .water)
 
 loop-holds : tie.Need-loop-holds Inv-loop μ-loop
-loop-holds c = (omega arith, omega arith, length-replicate {A = ℕ} 256 0, λ k h. absurd (omega arith))
+loop-holds c = (omega arith, omega arith, c .pre .2, λ k h. absurd (omega arith))
 
 field-requires : tie.Need-field-requires Inv-loop μ-loop
 field-requires c κs = omega (arith, most c, c .before .loop .inv .1)
@@ -38,8 +38,8 @@ field-requires c κs = omega (arith, most c, c .before .loop .inv .1)
 mul-fields : tie.Need-mul-fields Inv-loop μ-loop
 mul-fields c = omega (arith, few (c .before .before .before), c .before .loop-test .taken)
 
-array-write-fields : tie.Need-array-write-fields Inv-loop μ-loop
-array-write-fields c = omega (arith, few (c .before .before .before), c .before .loop-test .taken, c .before .before .loop .inv .2)
+element-write-fields : tie.Need-element-write-fields Inv-loop μ-loop
+element-write-fields c = omega (arith, few (c .before .before .before), c .before .loop-test .taken, c .before .before .loop .inv .2)
 
 add-water : tie.Need-add-water Inv-loop μ-loop
 add-water c =
@@ -73,8 +73,8 @@ returns c =
     let all : m .loop .k ≡ m .before .args .waters = omega (arith, m .loop .inv .0, c .loop-test .left) in
     rw all at (m .loop .inv .3)
 
-pub water-fields-spec : {M : Type 1} → statement M
-water-fields-spec =
+pub put-fields-spec : {M : Type 1} → statement M
+put-fields-spec =
     tie.close
     (tie.spec
     Inv-loop
@@ -82,7 +82,7 @@ water-fields-spec =
     loop-holds
     field-requires
     mul-fields
-    array-write-fields
+    element-write-fields
     add-water
     add-k
     loop-less
