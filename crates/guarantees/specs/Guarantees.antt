@@ -26,9 +26,9 @@ use Rattle.paper.specs.Answers.{over}
 use Rattle.paper.specs.Journal.{Call, journal, numbers}
 use Rattle.format.specs.Files.{Allows}
 use Rattle.balance.specs.declared.Balance.{Balance}
-use Rattle.balance.specs.Balance.{plain}
+use Rattle.balance.specs.Balance.{plain, Bounded}
 use Rattle.aboard.specs.declared.Laden.{Laden}
-use Rattle.aboard.specs.Aboard.{valueOf}
+use Rattle.aboard.specs.Aboard.{ArmsIn, valueOf}
 use Rattle.group.specs.declared.Terms.{Terms}
 use Rattle.group.proofs.terms_of.Reads as terms-of
 use Rattle.record.specs.declared.Record.{Record}
@@ -61,7 +61,7 @@ use Rattle.claim.specs.RecordCalls as on-record
 use Rattle.claim.specs.Buffers.{call-renewed, read-renewed, room-for-all}
 use Rattle.claim.specs.LibraryCalls as of-library
 use Rattle.claim.specs.Records as records
-use Rattle.claim.specs.Carrying.{Carrying, row-moment}
+use Rattle.claim.specs.Carrying.{Carrying, row-moment, every-row-carried}
 
 -- ---- the whole list
 
@@ -92,6 +92,10 @@ journal-record = records.journal-record
 pub moment-carried : (s : Sheet) (t : Terms) → terms-of.Post tt (s, tt) t (s, tt) → (b : Balance) (rear : ℕ) {k : ℕ} {x : Laden} → Carrying t b rear k x
     → valueOf (x .moment) ≡ momentBeside s (plain b) rear (k * s .water .step)
 moment-carried = row-moment
+
+-- It is about something: within the bounds that accepted sheets and lists keep to, something is carried to every row.
+pub something-carried : (t : Terms) (b : Balance) (rear : ℕ) → ArmsIn (t .arms) → Bounded 1024 b → rear ≤ 500000 → (k : ℕ) → (x : Laden) × Carrying t b rear k x
+something-carried = every-row-carried
 
 -- ---- files
 
