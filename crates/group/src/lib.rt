@@ -61,7 +61,7 @@ fn blank(x: Row) -> usize
 }
 
 // The fields of the waters, each made once for all rear loads.
-pub fn put_fields(s: Sheet, waters: usize, fields: &mut [u64; WATERS])
+pub fn put_waters(s: Sheet, waters: usize, fields: &mut [u64; WATERS])
     requires { ⌜ (firstNumber (sheetFaults s) ≡ 0) × (waters ≡ Numbered·waters s) × (length (now fields) ≡ 256) ⌝ }
     ensures { λ _. ⌜ FieldsOf s waters (now (fields .exit)) ⌝ }
 {

@@ -32,7 +32,7 @@ fn put_rows(s: Sheet, b: Balance, out: &mut [u8]) -> usize
     let rears = sheet::loads(s.rear) as usize;
     let waters = sheet::loads(s.water) as usize;
     let mut fields = [line::field(0); WATERS];
-    group::put_fields(s, waters, &mut fields);
+    group::put_waters(s, waters, &mut fields);
     let mut none = 0;
     let mut j = 0;
     while j < rears {

@@ -39,8 +39,8 @@ loads-requires-2 c κs =
 field-requires : tie.Need-field-requires Inv-loop μ-loop
 field-requires c κs = omega arith
 
-put-fields-requires : tie.Need-put-fields-requires Inv-loop μ-loop
-put-fields-requires c κs =
+put-waters-requires : tie.Need-put-waters-requires Inv-loop μ-loop
+put-waters-requires c κs =
     let l = c .before .before in
     (l .before .before .before .before .pre .0, l .loads2 .ensures .0, length-replicate 256 (c .before .field .result))
 
@@ -57,7 +57,7 @@ put-group-requires c κs =
     let f = m .before in
     let l = f .before .before .before in
     let b = l .before .before .before .before in
-    (b .pre .0, l .before .before .terms-of .ensures, b .pre .1, l .loads2 .ensures .0, omega (arith, l .before .loads .ensures .0), f .put-fields .ensures, omega (arith, b .pre .2, m .loop .inv .2))
+    (b .pre .0, l .before .before .terms-of .ensures, b .pre .1, l .loads2 .ensures .0, omega (arith, l .before .loads .ensures .0), f .put-waters .ensures, omega (arith, b .pre .2, m .loop .inv .2))
 
 -- the rows of the next group are among the sheet's, which has few
 module _ (c : tie.In-loop Inv-loop μ-loop) where
@@ -124,7 +124,7 @@ put-rows-spec =
     loads-requires
     loads-requires-2
     field-requires
-    put-fields-requires
+    put-waters-requires
     loop-holds
     put-group-requires
     add-none

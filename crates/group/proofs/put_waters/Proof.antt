@@ -1,4 +1,4 @@
--- `group::put_fields` meets its contract. The loop's invariant: the fields of the first k waters are made. Assumes nothing.
+-- `group::put_waters` meets its contract. The loop's invariant: the fields of the first k waters are made. Assumes nothing.
 use mathlib.Core.Path.{_≡_}
 use Prim.Native.Nat.{_*_, _-_, _≤_}
 use native.Mathlib.Nat.{add-mul, one-mul}
@@ -7,8 +7,8 @@ use lib.ListN.{length, length-set}
 use Rattle.sheet.proofs.Accepted.{accepted-sheet}
 use Rattle.group.specs.Shared.{FieldsOf}
 use Rattle.group.proofs.Buffer.{water-in, group-room, fields-more}
-use Rattle.group.proofs.put_fields.Statement.{statement}
-use Rattle.group.proofs.put_fields.Tie as tie
+use Rattle.group.proofs.put_waters.Statement.{statement}
+use Rattle.group.proofs.put_waters.Tie as tie
 
 abbrev Inv-loop : tie.InvT-loop
 Inv-loop s waters fields₀ water₀ k₀ fields water k =
@@ -73,8 +73,8 @@ returns c =
     let all : m .loop .k ≡ m .before .args .waters = omega (arith, m .loop .inv .0, c .loop-test .left) in
     rw all at (m .loop .inv .3)
 
-pub put-fields-spec : {M : Type 1} → statement M
-put-fields-spec =
+pub put-waters-spec : {M : Type 1} → statement M
+put-waters-spec =
     tie.close
     (tie.spec
     Inv-loop
