@@ -4,8 +4,8 @@ use mathlib.Core.List.{List}
 use mathlib.Core.Option.{none, some}
 use lib.IntN.{pos, natAbs}
 use Rattle.paper.specs.declared.Entry.{Entry}
-use Rattle.paper.specs.Record.{Balance, balanceOf, centreOf}
-use Rattle.paper.specs.Refusals.{firstNumber, isNone, centreNumber}
+use Rattle.paper.specs.Record.{Balance, balanceOf, centreOf, isNone}
+use Rattle.paper.specs.Refusals.{firstNumber, centreNumber}
 use Rattle.paper.specs.Answers.{centreGiven, centreRefused, centreAnswer}
 
 pub centre-none : (es : List Entry) → balanceOf es ≡ none → centreAnswer es ≡ record { number = 7; total = 0; moment = pos 0; centre = pos 0 }

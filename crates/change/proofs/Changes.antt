@@ -15,7 +15,8 @@ use Rattle.paper.proofs.Numbers.{no-first, no-other}
 use Rattle.paper.specs.declared.Change.{Change}
 use Rattle.paper.specs.Units.{between, isArm, halfGrams}
 use Rattle.paper.specs.Record as paper
-use Rattle.paper.specs.Refusals.{isTotal, isNonLifting, isChange, isNone, afterwards, badChange, changeFaults, firstNumber, _when_}
+use Rattle.paper.specs.Record.{isNone}
+use Rattle.paper.specs.Refusals.{isTotal, isNonLifting, isChange, afterwards, badChange, changeFaults, firstNumber, _when_}
 use Rattle.balance.specs.declared.Balance.{Balance}
 use Rattle.balance.specs.Balance.{plain}
 

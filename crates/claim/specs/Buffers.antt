@@ -14,7 +14,8 @@ use lib.Seq.{take-at, take-append-seam}
 use borrow.Author.Tests.{eqb-true, eqb-false, lt-ltb, le-ltb}
 use Rattle.paper.specs.declared.Entry.{Entry}
 use Rattle.paper.specs.File.{bytesOf, numberOf, bodyAs, fileAs, version, fileBytes}
-use Rattle.paper.specs.Refusals.{acceptedAfter, accepted, fileOf, isNone, firstNumber, readingNumber, writingNumber}
+use Rattle.paper.specs.Record.{isNone}
+use Rattle.paper.specs.Refusals.{acceptedAfter, accepted, fileOf, firstNumber, readingNumber, writingNumber}
 use Rattle.paper.specs.Answers.{over}
 use Rattle.paper.specs.Journal as journal
 use Rattle.paper.specs.Journal.{Call, callNumber, acceptedCall, afterBy, journalBy, numbersBy, numbers}

@@ -14,10 +14,10 @@ use Rattle.paper.specs.declared.Sheet.{Sheet}
 use Rattle.paper.specs.declared.Change.{Change}
 use Rattle.paper.specs.declared.Entry.{Entry}
 use Rattle.paper.specs.declared.Placard.{Placard}
-use Rattle.paper.specs.Record.{Balance, Readings, weighed, changedBy, lastWeighing, balanceOf, sheetOf}
+use Rattle.paper.specs.Record.{Balance, Readings, weighed, changedBy, lastWeighing, balanceOf, sheetOf, isNone}
 use Rattle.paper.specs.Rows.{rowCount}
 use Rattle.paper.specs.Placard.{text, textLength, blankCount}
-use Rattle.paper.specs.Refusals.{firstNumber, isNone, placardTooLong, placardNumber}
+use Rattle.paper.specs.Refusals.{firstNumber, placardTooLong, placardNumber}
 use Rattle.paper.specs.Answers.{over, placardAnswer}
 use Rattle.paper.specs.Journal.{weighingStands, sheetStands}
 use Rattle.page.proofs.Answers.{refusal, unweighed, no-sheet, too-short, given}

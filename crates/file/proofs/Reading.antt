@@ -8,7 +8,8 @@ use Prim.Native.Nat.{ℕ, _+_, _<_}
 use lib.ListN.{drop, set}
 use lib.Pow.{areBytes}
 use Rattle.paper.specs.declared.Entry.{Entry}
-use Rattle.paper.specs.Refusals.{entryNumber, fileOf, _when_, isNone, firstNumber, readingNumber}
+use Rattle.paper.specs.Record.{isNone}
+use Rattle.paper.specs.Refusals.{entryNumber, fileOf, _when_, firstNumber, readingNumber}
 use Rattle.paper.specs.Journal.{read, callNumber, acceptedCall, entriesOr}
 use Rattle.judge.specs.declared.Standing.{Standing}
 use Rattle.judge.specs.declared.Standing.the-variants.{Unweighed}

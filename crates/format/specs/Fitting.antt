@@ -19,9 +19,9 @@ use Rattle.paper.specs.declared.Change.{Change}
 use Rattle.paper.specs.declared.Entry.{Entry}
 use Rattle.paper.specs.declared.Entry.the-variants as entry
 use Rattle.paper.specs.Units.{isWeight, isArm}
-use Rattle.paper.specs.Record.{Balance, alike, paired, totalOf, balanceOf}
+use Rattle.paper.specs.Record.{Balance, alike, paired, totalOf, balanceOf, isNone}
 use Rattle.paper.specs.File.{Field, complement, fieldValue, byte, word, signedWord, layoutOf, valuesOf}
-use Rattle.paper.specs.Refusals.{firstNumber, badReading, badDistance, badPart, weighingFaults, weighingNumber, sheetFaults, sheetNumber, isNone, isChange, badChange, changeFaults, changeNumber, entryNumber, full}
+use Rattle.paper.specs.Refusals.{firstNumber, badReading, badDistance, badPart, weighingFaults, weighingNumber, sheetFaults, sheetNumber, isChange, badChange, changeFaults, changeNumber, entryNumber, full}
 use Rattle.paper.proofs.Numbers.{no-first, no-other}
 use Rattle.paper.proofs.Units.{arm-range}
 use Rattle.paper.proofs.Weighings.{Fine, first-fine, second-fine}

@@ -6,7 +6,8 @@ use Prim.Native.Nat.{ℕ}
 use lib.IntN.{pos}
 use Rattle.paper.specs.declared.Entry.{Entry}
 use Rattle.paper.specs.declared.Placard.{Placard}
-use Rattle.paper.specs.Refusals.{firstNumber, isNone, readingNumber}
+use Rattle.paper.specs.Record.{isNone}
+use Rattle.paper.specs.Refusals.{firstNumber, readingNumber}
 use Rattle.paper.specs.Answers.{centreRefused, centreAnswer, placardRefused, placardAnswer}
 use Rattle.front.specs.Front.{heldIn, checkNumber, centreFor, placardFor}
 

@@ -8,7 +8,8 @@ use borrow.Author.Tests.{le-leb, lt-leb}
 use Rattle.paper.specs.declared.Change.{Change}
 use Rattle.paper.specs.declared.Entry.{Entry}
 use Rattle.paper.specs.Record as paper
-use Rattle.paper.specs.Refusals.{isNone, changeFaults, firstNumber}
+use Rattle.paper.specs.Record.{isNone}
+use Rattle.paper.specs.Refusals.{changeFaults, firstNumber}
 use Rattle.balance.specs.declared.Balance.{Balance}
 use Rattle.judge.specs.declared.Standing.{Standing}
 use Rattle.judge.specs.declared.Standing.the-variants.{Unweighed, Weighed}

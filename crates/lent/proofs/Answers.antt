@@ -14,7 +14,8 @@ use Rattle.paper.specs.declared.Entry.the-variants as entry
 use Rattle.paper.specs.declared.Written.{Written}
 use Rattle.paper.specs.Rows.{joined}
 use Rattle.paper.specs.File.{bytesOf, entryBytes, bodyAs, fileAs, version, fileBytes}
-use Rattle.paper.specs.Refusals.{entryNumber, fileOf, firstNumber, isNone, readingNumber}
+use Rattle.paper.specs.Record.{isNone}
+use Rattle.paper.specs.Refusals.{entryNumber, fileOf, firstNumber, readingNumber}
 use Rattle.paper.specs.Answers.{over}
 use Rattle.paper.specs.Journal.{Call, undo, read, callOf, callNumber, acceptedCall, withoutLast, entriesOr}
 use Rattle.paper.proofs.Lists.{last-apart}

@@ -10,10 +10,10 @@ use Rattle.laws.specs.Written.{written, written-first}
 use Rattle.paper.specs.declared.Sheet.{Sheet}
 use Rattle.paper.specs.declared.Entry.{Entry}
 use Rattle.paper.specs.declared.Placard.{Placard}
-use Rattle.paper.specs.Record.{Balance, balanceOf, sheetOf}
+use Rattle.paper.specs.Record.{Balance, balanceOf, sheetOf, isNone}
 use Rattle.paper.specs.Rows.{rowCount}
 use Rattle.paper.specs.Placard.{text, textLength, blankCount}
-use Rattle.paper.specs.Refusals.{firstNumber, isNone, placardTooLong, placardNumber}
+use Rattle.paper.specs.Refusals.{firstNumber, placardTooLong, placardNumber}
 use Rattle.paper.specs.Answers.{over, placardGiven, placardRefused, placardBy, placardAnswer}
 
 -- a refusal's answer

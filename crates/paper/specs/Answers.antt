@@ -7,11 +7,12 @@ use lib.Dec.{eqb}
 use lib.IntN.{pos, natAbs}
 use lib.ListN.{length, drop}
 use Rattle.paper.specs.declared.Sheet.{Sheet}
+use Rattle.paper.specs.declared.Seat.{Seat}
 use Rattle.paper.specs.declared.Entry.{Entry}
 use Rattle.paper.specs.declared.CentreOfGravity.{CentreOfGravity}
 use Rattle.paper.specs.declared.Placard.{Placard}
 use Rattle.paper.specs.declared.Written.{Written}
-use Rattle.paper.specs.Record.{Balance, balanceOf, sheetOf, centreOf}
+use Rattle.paper.specs.Record.{Balance, balanceOf, sheetOf, seatOf, endsOf, centreOf}
 use Rattle.paper.specs.Rows.{rowCount}
 use Rattle.paper.specs.Placard.{text, textLength, blankCount}
 use Rattle.paper.specs.File.{fileBytes}
@@ -39,23 +40,24 @@ centreAnswer es = centreBy (centreNumber es) (balanceOf es)
 
 -- ---- placard
 
-unfoldable pub placardGiven : Sheet → Balance → List ℕ → Placard × List ℕ
-placardGiven s b buffer = (
-  record { number = 0; bytes = textLength s; rows = rowCount s; blank = blankCount s b },
-  over (text s b) buffer,
+unfoldable pub placardGiven : Sheet → Seat → Balance → List ℕ → Placard × List ℕ
+placardGiven s f b buffer = (
+  record { number = 0; bytes = textLength s; rows = rowCount s; blank = blankCount s f b },
+  over (text s f b) buffer,
 )
 
 unfoldable pub placardRefused : ℕ → List ℕ → Placard × List ℕ
 placardRefused n buffer = (record { number = n; bytes = 0; rows = 0; blank = 0 }, buffer)
 
-abbrev pub placardBy : ℕ → Option Sheet → Option Balance → List ℕ → Placard × List ℕ
-placardBy n none o buffer = placardRefused n buffer
-placardBy n (some s) none buffer = placardRefused n buffer
-placardBy n (some s) (some b) buffer = cond (eqb n 0) (placardGiven s b buffer) (placardRefused n buffer)
+abbrev pub placardBy : ℕ → Option Sheet → Option Seat → Option Balance → List ℕ → Placard × List ℕ
+placardBy n none f o buffer = placardRefused n buffer
+placardBy n (some s) f none buffer = placardRefused n buffer
+placardBy n (some s) f (some b) buffer =
+    cond (eqb n 0) (placardGiven s (endsOf s f) b buffer) (placardRefused n buffer)
 
 -- the answer, and the buffer as the call leaves it
 unfoldable pub placardAnswer : List Entry → List ℕ → Placard × List ℕ
-placardAnswer es buffer = placardBy (placardNumber es (length buffer)) (sheetOf es) (balanceOf es) buffer
+placardAnswer es buffer = placardBy (placardNumber es (length buffer)) (sheetOf es) (seatOf es) (balanceOf es) buffer
 
 -- ---- writing
 

@@ -13,6 +13,7 @@ use Rattle.paper.specs.declared.Weighing.{Weighing}
 use Rattle.paper.specs.declared.Sheet.{Sheet}
 use Rattle.paper.specs.declared.Change.{Change}
 use Rattle.paper.specs.declared.Paired.{Paired}
+use Rattle.paper.specs.declared.Seat.{Seat}
 use Rattle.paper.specs.declared.Entry.{Entry}
 use Rattle.paper.specs.declared.Entry.the-variants as entry
 use Rattle.paper.specs.Rows.{joined}
@@ -59,7 +60,8 @@ abbrev pub signedWord : Field
 signedWord = record { width = 4; signed = true }
 
 -- the table: 1 weighing (m; p, q, a, b, n), 2 sheet (FWD, AFT, DRY, WET, NLP; front arm, least, greatest, step; rear arm,
--- greatest, step; water arm, capacity, step), 3 change (c, arm; flag), 4 paired weighing (m; p, q, p', q', a, b, n)
+-- greatest, step; water arm, capacity, step), 3 change (c, arm; flag), 4 paired weighing (m; p, q, p', q', a, b, n), 5 seat (the
+-- lower and the higher arm)
 unfoldable pub layoutOf : ℕ → Option (List Field)
 layoutOf k =
     cond (eqb k 1) (some (byte ∷ word ∷ word ∷ signedWord ∷ word ∷ word ∷ []))
@@ -68,7 +70,8 @@ layoutOf k =
     signedWord ∷ signedWord ∷ word ∷ word ∷ word ∷ signedWord ∷ word ∷ word ∷ word ∷ signedWord ∷ word ∷ word ∷ signedWord ∷ word ∷ word ∷ []
     ))
     (cond (eqb k 3) (some (signedWord ∷ signedWord ∷ byte ∷ []))
-    (cond (eqb k 4) (some (byte ∷ word ∷ word ∷ word ∷ word ∷ signedWord ∷ word ∷ word ∷ [])) none)))
+    (cond (eqb k 4) (some (byte ∷ word ∷ word ∷ word ∷ word ∷ signedWord ∷ word ∷ word ∷ []))
+    (cond (eqb k 5) (some (signedWord ∷ signedWord ∷ [])) none))))
 
 -- an entry's kind, and its values in the table's order
 abbrev pub kindOf : Entry → ℕ
@@ -76,6 +79,7 @@ kindOf (entry.Weighing w) = 1
 kindOf (entry.Sheet s) = 2
 kindOf (entry.Change x) = 3
 kindOf (entry.Paired x) = 4
+kindOf (entry.Seat f) = 5
 
 abbrev pub valuesOf : Entry → List ℤ
 valuesOf (entry.Weighing w) =
@@ -85,6 +89,7 @@ valuesOf (entry.Sheet s) =
 valuesOf (entry.Change x) = x .c ∷ x .arm ∷ pos (x .flag) ∷ []
 valuesOf (entry.Paired x) =
     pos (x .m) ∷ pos (x .p) ∷ pos (x .q) ∷ pos (x .p2) ∷ pos (x .q2) ∷ x .a ∷ pos (x .b) ∷ pos (x .n) ∷ []
+valuesOf (entry.Seat f) = f .lower ∷ f .higher ∷ []
 
 -- the value at a place, signed and unsigned
 abbrev pub signedAt : List ℤ → ℕ → ℤ
@@ -117,6 +122,7 @@ entryOf k vs =
     }))
     (cond (eqb k 3)
     (entry.Change (record { c = signedAt vs 0; arm = signedAt vs 1; flag = plainAt vs 2 }))
+    (cond (eqb k 4)
     (entry.Paired
     (record {
       m = plainAt vs 0;
@@ -127,7 +133,8 @@ entryOf k vs =
       a = signedAt vs 5;
       b = plainAt vs 6;
       n = plainAt vs 7;
-    }))))
+    }))
+    (entry.Seat (record { lower = signedAt vs 0; higher = signedAt vs 1 })))))
 
 -- ---- writing
 
@@ -194,9 +201,9 @@ takeEntries (suc n) xs =
 unfoldable pub isVersion : ℕ → Bool
 isVersion v = eqb v 1 || eqb v 2
 
--- the last kind of entry that a version has: paired weighings came with version 2
+-- the last kind of entry that a version has: paired weighings and seats are of version 2
 unfoldable pub lastKind : ℕ → ℕ
-lastKind v = cond (eqb v 1) 3 4
+lastKind v = cond (eqb v 1) 3 5
 
 -- each entry is of a kind up to k
 unfoldable pub kindsTo : ℕ → List Entry → Bool

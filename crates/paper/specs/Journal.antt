@@ -8,10 +8,11 @@ use Rattle.paper.specs.declared.Weighing.{Weighing}
 use Rattle.paper.specs.declared.Paired.{Paired}
 use Rattle.paper.specs.declared.Sheet.{Sheet}
 use Rattle.paper.specs.declared.Change.{Change}
+use Rattle.paper.specs.declared.Seat.{Seat}
 use Rattle.paper.specs.declared.Entry.{Entry}
 use Rattle.paper.specs.declared.Entry.the-variants as entry
-use Rattle.paper.specs.Record.{alike, paired, lastWeighing, sheetOf}
-use Rattle.paper.specs.Refusals.{isNone, weighingNumber, sheetNumber, changeNumber, undoNumber, readingNumber, fileOf}
+use Rattle.paper.specs.Record.{alike, paired, lastWeighing, sheetOf, isNone}
+use Rattle.paper.specs.Refusals.{weighingNumber, sheetNumber, changeNumber, seatNumber, undoNumber, readingNumber, fileOf}
 
 -- a call that can change the record, with its arguments: the bytes of a file are reading back's
 pub data Call : Type 0 where
@@ -19,6 +20,7 @@ pub data Call : Type 0 where
   pair : Paired → Call
   install : Sheet → Call
   change : Change → Call
+  seat : Seat → Call
   undo : Call
   read : List ℕ → Call
 
@@ -28,6 +30,7 @@ callOf (entry.Weighing w) = weigh w
 callOf (entry.Sheet s) = install s
 callOf (entry.Change x) = change x
 callOf (entry.Paired x) = pair x
+callOf (entry.Seat f) = seat f
 
 -- the number that a call gets on a journal, 0 where it is accepted
 unfoldable pub callNumber : List Entry → Call → ℕ
@@ -35,6 +38,7 @@ callNumber es (weigh w) = weighingNumber es (alike w)
 callNumber es (pair x) = weighingNumber es (paired x)
 callNumber es (install s) = sheetNumber es s
 callNumber es (change x) = changeNumber es x
+callNumber es (seat f) = seatNumber es f
 callNumber es undo = undoNumber es
 callNumber es (read xs) = readingNumber xs
 
@@ -61,6 +65,7 @@ acceptedCall es (weigh w) = es ++ entry.Weighing w ∷ []
 acceptedCall es (pair x) = es ++ entry.Paired x ∷ []
 acceptedCall es (install s) = es ++ entry.Sheet s ∷ []
 acceptedCall es (change x) = es ++ entry.Change x ∷ []
+acceptedCall es (seat f) = es ++ entry.Seat f ∷ []
 acceptedCall es undo = withoutLast es
 acceptedCall es (read xs) = entriesOr es (fileOf xs)
 

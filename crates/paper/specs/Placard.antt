@@ -5,6 +5,7 @@ use mathlib.Core.List.{List, [], _∷_, _++_, map}
 use Prim.Native.Nat.{ℕ, zero, suc, _+_, _*_, _/_, _%_, _^_, _<_}
 use lib.ListN.{replicate, take, drop}
 use Rattle.paper.specs.declared.Sheet.{Sheet}
+use Rattle.paper.specs.declared.Seat.{Seat}
 use Rattle.paper.specs.declared.Row.{Row}
 use Rattle.paper.specs.declared.Row.the-variants.{Range, Blank}
 use Rattle.paper.specs.Record.{Balance}
@@ -68,8 +69,8 @@ abbrev pub lineIn : List ℕ → ℕ → List ℕ
 lineIn buffer i = take lineLength (drop (lineLength * i) buffer)
 
 -- the placard: a line for each row, in the rows' order
-unfoldable pub text : Sheet → Balance → List ℕ
-text s b = joined (map (λ (x : ℕ × ℕ). line (x .0) (x .1) (row s b (x .0) (x .1))) (loads s))
+unfoldable pub text : Sheet → Seat → Balance → List ℕ
+text s f b = joined (map (λ (x : ℕ × ℕ). line (x .0) (x .1) (row s f b (x .0) (x .1))) (loads s))
 
 -- how many bytes it has, by its rows
 unfoldable pub textLength : Sheet → ℕ
@@ -80,6 +81,6 @@ unfoldable pub blankOf : List Row → ℕ
 blankOf [] = 0
 blankOf (x ∷ xs) = cond (isBlank x) (suc (blankOf xs)) (blankOf xs)
 
--- how many rows of the placard have no front load that keeps every limit
-unfoldable pub blankCount : Sheet → Balance → ℕ
-blankCount s b = blankOf (map (λ (x : ℕ × ℕ). row s b (x .0) (x .1)) (loads s))
+-- how many rows of the placard have no front load that is good
+unfoldable pub blankCount : Sheet → Seat → Balance → ℕ
+blankCount s f b = blankOf (map (λ (x : ℕ × ℕ). row s f b (x .0) (x .1)) (loads s))

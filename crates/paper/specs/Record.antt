@@ -1,6 +1,6 @@
--- "The record": what a list of entries says. G, M and n, the empty centre of gravity and the sheet in force, all of the
--- list alone, its first entry first.
-use mathlib.Core.Bool.{Bool, cond}
+-- "The record": what a list of entries says. G, M and n, the empty centre of gravity, the sheet in force and the seat in force,
+-- all of the list alone, its first entry first.
+use mathlib.Core.Bool.{Bool, true, false, cond}
 use mathlib.Core.List.{List, [], _∷_}
 use mathlib.Core.Option.{Option, none, some, Option·map, orElse}
 use Prim.Native.Nat.{ℕ, _*_}
@@ -11,6 +11,7 @@ use Rattle.paper.specs.declared.Weighing.{Weighing}
 use Rattle.paper.specs.declared.Paired.{Paired}
 use Rattle.paper.specs.declared.Sheet.{Sheet}
 use Rattle.paper.specs.declared.Change.{Change}
+use Rattle.paper.specs.declared.Seat.{Seat}
 use Rattle.paper.specs.declared.Entry.{Entry}
 use Rattle.paper.specs.declared.Entry.the-variants as entry
 use Rattle.paper.specs.Units.{halfGrams}
@@ -93,6 +94,7 @@ changesOf (entry.Weighing w ∷ es) = changesOf es
 changesOf (entry.Sheet s ∷ es) = changesOf es
 changesOf (entry.Change x ∷ es) = x ∷ changesOf es
 changesOf (entry.Paired x ∷ es) = changesOf es
+changesOf (entry.Seat f ∷ es) = changesOf es
 
 -- a weighing, plain or paired, with the changes behind it
 abbrev pub opened : Entry → List Change → Option (Readings × List Change)
@@ -100,6 +102,7 @@ opened (entry.Weighing w) xs = some (alike w, xs)
 opened (entry.Sheet s) xs = none
 opened (entry.Change x) xs = none
 opened (entry.Paired x) xs = some (paired x, xs)
+opened (entry.Seat f) xs = none
 
 -- the last weighing of a list with the changes behind it, none where the list has no weighing
 unfoldable pub lastWeighing : List Entry → Option (Readings × List Change)
@@ -120,8 +123,32 @@ asSheet (entry.Weighing w) = none
 asSheet (entry.Sheet s) = some s
 asSheet (entry.Change x) = none
 asSheet (entry.Paired x) = none
+asSheet (entry.Seat f) = none
 
 -- the sheet in force: the last of the list
 unfoldable pub sheetOf : List Entry → Option Sheet
 sheetOf [] = none
 sheetOf (e ∷ es) = orElse (sheetOf es) (asSheet e)
+
+unfoldable pub isNone : {A : Type 0} → Option A → Bool
+isNone none = true
+isNone (some x) = false
+
+-- a seat entry
+abbrev pub asSeat : Entry → Option Seat
+asSeat (entry.Weighing w) = none
+asSeat (entry.Sheet s) = none
+asSeat (entry.Change x) = none
+asSeat (entry.Paired x) = none
+asSeat (entry.Seat f) = some f
+
+-- the seat in force (paper 02, card 4): the last seat entry of the list, unless a sheet stands behind it
+unfoldable pub seatOf : List Entry → Option Seat
+seatOf [] = none
+seatOf (e ∷ es) = orElse (seatOf es) (cond (isNone (sheetOf es)) (asSeat e) none)
+
+-- the two ends that the arm of a front load lies between: those of the seat in force, which override the sheet's front arm, or
+-- that arm twice where there is none
+abbrev pub endsOf : Sheet → Option Seat → Seat
+endsOf s none = record { lower = s .front .arm; higher = s .front .arm }
+endsOf s (some f) = f

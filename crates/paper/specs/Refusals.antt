@@ -6,15 +6,16 @@ use Prim.Native.Nat.{ℕ}
 use lib.Dec.{leb, ltb, eqb}
 use lib.IntN.{pos, negℤ, natAbs}
 use lib.ListN.{length}
-use lib.Signed.{ltZ}
+use lib.Signed.{leZ, ltZ}
 use Rattle.paper.specs.declared.Station.{Station}
 use Rattle.paper.specs.declared.Weighing.{Weighing}
 use Rattle.paper.specs.declared.Sheet.{Sheet}
 use Rattle.paper.specs.declared.Change.{Change}
+use Rattle.paper.specs.declared.Seat.{Seat}
 use Rattle.paper.specs.declared.Entry.{Entry}
 use Rattle.paper.specs.declared.Entry.the-variants as entry
 use Rattle.paper.specs.Units.{between, isWeight, isArm, halfGrams}
-use Rattle.paper.specs.Record.{Balance, Readings, alike, paired, totalOf, changed, balanceOf, sheetOf}
+use Rattle.paper.specs.Record.{Balance, Readings, alike, paired, totalOf, changed, balanceOf, sheetOf, isNone}
 use Rattle.paper.specs.Rows.{rowCount}
 use Rattle.paper.specs.Placard.{textLength}
 use Rattle.paper.specs.File.{fileBytes, laidOut}
@@ -96,10 +97,6 @@ sheetNumber es s = firstNumber (9 when full es ∷ sheetFaults s)
 
 -- ---- change: 9, 7, 2, 6, 3
 
-unfoldable pub isNone : {A : Type 0} → Option A → Bool
-isNone none = true
-isNone (some x) = false
-
 -- a condition of the balance after a change; there is none before a weighing
 unfoldable pub afterwards : (Balance → Bool) → Option Balance → Change → Bool
 afterwards q none x = false
@@ -128,6 +125,19 @@ changeFaults o x =
 
 unfoldable pub changeNumber : List Entry → Change → ℕ
 changeNumber es x = firstNumber (9 when full es ∷ changeFaults (balanceOf es) x)
+
+-- ---- seat: 9, 8, 2
+
+-- 2: an end is no arm, or the ends are reversed
+unfoldable pub badEnds : Seat → Bool
+badEnds f = not (isArm (f .lower) && isArm (f .higher) && leZ (f .lower) (f .higher))
+
+-- what is asked of a seat entry where o is the sheet in force, none of it before a sheet, in its order behind 9
+unfoldable pub seatFaults : Option Sheet → Seat → List (ℕ × Bool)
+seatFaults o f = 8 when isNone o ∷ 2 when badEnds f ∷ []
+
+unfoldable pub seatNumber : List Entry → Seat → ℕ
+seatNumber es f = firstNumber (9 when full es ∷ seatFaults (sheetOf es) f)
 
 -- ---- the calls that take no entry
 
@@ -163,6 +173,7 @@ entryNumber es (entry.Weighing w) = weighingNumber es (alike w)
 entryNumber es (entry.Sheet s) = sheetNumber es s
 entryNumber es (entry.Change x) = changeNumber es x
 entryNumber es (entry.Paired x) = weighingNumber es (paired x)
+entryNumber es (entry.Seat f) = seatNumber es f
 
 -- entries taken in turn behind a list get no number
 unfoldable pub acceptedAfter : List Entry → List Entry → Bool

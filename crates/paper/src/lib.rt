@@ -103,11 +103,18 @@ pub struct Change {
     pub flag: u64,
 }
 
+// A seat entry: the two ends that the arm of a front load lies between, the lower first.
+pub struct Seat {
+    pub lower: i64,
+    pub higher: i64,
+}
+
 pub enum Entry {
     Weighing(Weighing),
     Sheet(Sheet),
     Change(Change),
     Paired(Paired),
+    Seat(Seat),
 }
 
 // A row of the placard: the smallest and the largest front load, or blank.

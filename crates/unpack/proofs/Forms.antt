@@ -16,7 +16,7 @@ use Rattle.paper.specs.declared.Change.{Change}
 use Rattle.paper.specs.declared.Paired.{Paired}
 use Rattle.paper.specs.declared.Entry.the-variants as entry
 use Rattle.paper.specs.File.{signedWord, fieldValue, layoutOf, entryOf}
-use Rattle.paper.specs.Refusals.{isNone}
+use Rattle.paper.specs.Record.{isNone}
 use Rattle.format.specs.Fields.{valuesBy}
 use Rattle.layout.specs.Table.{entryWith}
 

@@ -11,7 +11,7 @@ ghost use mathlib.Core.Path.{_≡_};
 ghost use mathlib.Core.Bool.{false};
 ghost use Rattle.paper.specs.declared.Entry.the-variants as entry;
 ghost use Rattle.paper.specs.File.{signedWord, fieldValue, layoutOf};
-ghost use Rattle.paper.specs.Refusals.{isNone};
+ghost use Rattle.paper.specs.Record.{isNone};
 ghost use Rattle.layout.specs.Table.{entryWith};
 
 fn weighing_of(n: [u32; FIELDS]) -> Weighing

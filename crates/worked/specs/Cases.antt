@@ -15,10 +15,10 @@ use Rattle.paper.specs.declared.Weighing.{Weighing}
 use Rattle.paper.specs.declared.Entry.{Entry}
 use Rattle.paper.specs.declared.Entry.the-variants as entry
 use Rattle.paper.specs.Units.{isWeight, isArm, halfGrams}
-use Rattle.paper.specs.Record.{Balance, totalOf, momentOf, alike, paired, weighed, with, changesOf, lastWeighing, balanceOf}
+use Rattle.paper.specs.Record.{Balance, totalOf, momentOf, alike, paired, weighed, with, changesOf, lastWeighing, balanceOf, isNone}
 use Rattle.paper.specs.Rows.{laden, atMost, lines, all, anyFails, keepsAt, breaksAt, isStep, smallest, largest, rowOf, joined, rowCount}
 use Rattle.paper.specs.File.{bytesOf, numberOf, fieldBytes, fieldValue, layoutOf, entryOf, fieldsBytes, entryBytes, bodyAs, fileAs, fileBytes, takeNumber, takeFields, takeEntry, takeEntries, isVersion, lastKind, kindsTo, takeBody, laidOut}
-use Rattle.paper.specs.Refusals.{firstNumber, full, badReading, badDistance, badPart, weighingFaults, weighingNumber, badArms, badRanges, badRows, sheetFaults, sheetNumber, isNone, changeFaults, changeNumber}
+use Rattle.paper.specs.Refusals.{firstNumber, full, badReading, badDistance, badPart, weighingFaults, weighingNumber, badArms, badRanges, badRows, sheetFaults, sheetNumber, changeFaults, changeNumber}
 use Rattle.paper.specs.Refusals.{undoNumber, entryNumber, acceptedAfter, accepted, fileOf, readingNumber}
 use Rattle.paper.specs.Journal.{Call, weigh, pair, install, change, undo, read, callNumber, withoutLast, acceptedCall, afterBy, journalBy, numbersBy, journal, numbers}
 use Rattle.worked.specs.Plates.{minus, blanik, blanikSheet, astir, astirSheet, G, pairOf, astirPair, spareSheet, spare}

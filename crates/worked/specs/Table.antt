@@ -22,11 +22,11 @@ use Rattle.paper.specs.declared.Entry.{Entry}
 use Rattle.paper.specs.declared.Entry.the-variants as entry
 use Rattle.paper.specs.declared.Placard.{Placard}
 use Rattle.paper.specs.Units.{isWeight, isArm, halfGrams}
-use Rattle.paper.specs.Record.{Balance, totalOf, momentOf, alike, weighed, with, changed, changedBy, changesOf, lastWeighing, balanceOf, centreOf, sheetOf}
+use Rattle.paper.specs.Record.{Balance, totalOf, momentOf, alike, weighed, with, changed, changedBy, changesOf, lastWeighing, balanceOf, centreOf, sheetOf, isNone}
 use Rattle.paper.specs.Rows.{laden, atMost, lines, all, keepsAt, row, below, loadsOf, joined, loads, rowCount}
 use Rattle.paper.specs.Placard.{feed, digits, kilograms, ends, line, text, textLength, blankOf}
 use Rattle.paper.specs.File.{bytesOf, fieldBytes, layoutOf, fieldsBytes, entryBytes, bodyAs, fileAs, fileBytes}
-use Rattle.paper.specs.Refusals.{firstNumber, full, isTotal, isNonLifting, badReading, badDistance, badPart, weighingFaults, weighingNumber, badArms, badRanges, badRows, sheetFaults, sheetNumber, isNone, afterwards, isChange, badChange, changeFaults, changeNumber}
+use Rattle.paper.specs.Refusals.{firstNumber, full, isTotal, isNonLifting, badReading, badDistance, badPart, weighingFaults, weighingNumber, badArms, badRanges, badRows, sheetFaults, sheetNumber, afterwards, isChange, badChange, changeFaults, changeNumber}
 use Rattle.paper.specs.Refusals.{placardTooLong, placardNumber, entryNumber, acceptedAfter, accepted}
 use Rattle.paper.specs.Answers.{over, placardRefused, placardAnswer}
 use Rattle.planes.proofs.Lines.{planesOf, keeps-planes}

@@ -2,7 +2,7 @@
 use borrow.Author.Needs.{needs}
 use mathlib.Core.Path.{refl}
 use Rattle.paper.specs.File.{layoutOf}
-use Rattle.paper.specs.Refusals.{isNone}
+use Rattle.paper.specs.Record.{isNone}
 use Rattle.format.specs.Fields.{widths, total}
 use Rattle.entries.proofs.Places.{fields-short, fields-got}
 use Rattle.entries.proofs.sheet_from.Statement.{statement}
