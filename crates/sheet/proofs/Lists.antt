@@ -29,6 +29,7 @@ one-sheet es (entry.Sheet t) s e n =
     sym (ap (λ (u : Sheet). firstNumber (sheetFaults u)) (Option·some-injective t s e)) ∙ no-other 9 (full es) _ (omega arith) n
 one-sheet es (entry.Change x) s e n = cc
 one-sheet es (entry.Paired x) s e n = cc
+one-sheet es (entry.Seat f) s e n = cc
 
 sheet-after : (es fs : List Entry) (s : Sheet) → acceptedAfter es fs ≡ true → sheetOf fs ≡ some s → firstNumber (sheetFaults s) ≡ 0
 unfolding acceptedAfter sheetOf

@@ -1,17 +1,13 @@
-// A data sheet's number of refusal, by the sheet alone, and the sheet in force.
+// A data sheet's number of refusal, by the sheet alone.
 use paper::Arm;
-use paper::Entry;
 use paper::MOST_ROWS;
 use paper::Sheet;
 use paper::Station;
 use paper::Weight;
 ghost use mathlib.Core.Path.{_≡_};
 ghost use mathlib.Core.Bool.{false};
-ghost use mathlib.Core.Option.{orElse};
 ghost use Prim.Native.Nat.{_+_, _/_, _≤_};
-ghost use Rattle.paper.specs.Record.{asSheet};
 ghost use Rattle.paper.specs.Refusals.{firstNumber, badArms, badRanges, isStepTo, badRows, sheetFaults};
-ghost use Rattle.sheet.specs.InForce.{found};
 
 // Number 2's condition.
 fn bad_arms(s: Sheet) -> bool
@@ -112,22 +108,4 @@ pub fn number(s: Sheet) -> u64
         return 5;
     }
     0
-}
-
-// The sheet in force, where there is one.
-pub enum InForce {
-    Nothing,
-    Found(Sheet),
-}
-
-// The sheet in force behind one entry more.
-pub fn later(last: InForce, e: Entry) -> InForce
-    ensures { λ r. ⌜ found r ≡ orElse (asSheet e) (found last) ⌝ }
-{
-    match e {
-        Entry::Weighing(_) => last,
-        Entry::Sheet(s) => InForce::Found(s),
-        Entry::Change(_) => last,
-        Entry::Paired(_) => last,
-    }
 }

@@ -1,0 +1,2 @@
+-- What is in force, as the code carries it.
+pub mod InForce

@@ -1,2 +1,0 @@
--- The sheet in force as the code carries it.
-pub mod InForce
