@@ -9,15 +9,16 @@
  * range is refused. Only nodhulika_centre answers in half grams.
  *
  * A record is the list of a glider's accepted entries, at most 64: weighings,
- * plain and paired, data sheets and changes. It is lent as its file at the front
- * of a buffer of the caller's: the first 4 + L bytes, L being the big-endian
- * number in the first four. The bytes behind the file are free. Only an accepted
- * call that makes the file longer writes there, and only as far as the file then
- * reaches. A buffer of NODHULIKA_LONGEST_FILE bytes has room for every record.
+ * plain and paired, data sheets, changes and adjustable seats. It is lent as its
+ * file at the front of a buffer of the caller's: the first 4 + L bytes, L being
+ * the big-endian number in the first four. The bytes behind the file are free.
+ * Only an accepted call that makes the file longer writes there, and only as far
+ * as the file then reaches. A buffer of NODHULIKA_LONGEST_FILE bytes has room for
+ * every record.
  *
  * Files are written in version 2. One of version 1, which has no paired
- * weighings, is taken as it is; the first accepted call that changes the record
- * leaves one of version 2.
+ * weighings and no seats, is taken as it is; the first accepted call that changes
+ * the record leaves one of version 2.
  *
  * Every function answers 0 where the call is accepted, else the number of its
  * refusal: the first, in the order given with the function, whose condition
@@ -68,7 +69,8 @@ enum nodhulika_refusal {
     /* The method is not 1..4, a reading is over 2,000,000 g, q is more than p
      * in method 1 or 2, or G is not 1..2,000,000 g. */
     NODHULIKA_READING = 1,
-    /* An arm, or the distance a or b of a weighing, is outside its range. */
+    /* An arm, or the distance a or b of a weighing, is outside its range, or the
+     * ends of a seat are reversed. */
     NODHULIKA_ARM = 2,
     /* n is not 0..G, as given or after the change. */
     NODHULIKA_NON_LIFTING = 3,
@@ -178,7 +180,7 @@ uint64_t nodhulika_weigh_paired(uint8_t *buffer, size_t buffer_length,
  * dry: the greatest weight without water, 1..2,000,000 g.
  * wet: the greatest weight with water, dry..2,000,000 g.
  * nlp: the greatest non-lifting weight, 0..2,000,000 g; 0 is no limit.
- * front_arm: the arm of the front load.
+ * front_arm: the arm of the front load, until nodhulika_seat overrides it.
  * front_least, front_most: the least and the greatest front load, 0..500,000 g;
  *    front_least <= front_most. A front load of 0 never keeps the limits: where
  *    front_least is 0 a row begins at the next step at the earliest.
@@ -222,6 +224,23 @@ uint64_t nodhulika_sheet(uint8_t *buffer, size_t buffer_length,
 NODHULIKA_MUST_USE
 uint64_t nodhulika_change(uint8_t *buffer, size_t buffer_length,
                           int64_t c, int64_t arm, uint64_t flag);
+
+/*
+ * Adds a front seat to the record whose back can be adjusted: the arm of the
+ * front load is known only to lie between two ends. They override the front_arm
+ * of the data sheet before them until the next data sheet or seat. A front load
+ * then keeps the limits only where it does so at every arm between the ends, both
+ * included.
+ *
+ * buffer: the record; 9 bytes behind its file are written, and its header.
+ * lower, higher: the two ends, as arms; lower <= higher.
+ *
+ * Answers NODHULIKA_OK or, in this order, NODHULIKA_FILE, NODHULIKA_FULL,
+ * NODHULIKA_NO_SHEET, NODHULIKA_ARM, NODHULIKA_SHORT.
+ */
+NODHULIKA_MUST_USE
+uint64_t nodhulika_seat(uint8_t *buffer, size_t buffer_length,
+                        int64_t lower, int64_t higher);
 
 /*
  * Takes the last entry back. The file gets shorter; the entry's bytes stay
@@ -276,9 +295,9 @@ uint64_t nodhulika_centre(const uint8_t *buffer, size_t buffer_length,
  * both rising. A row is a line of NODHULIKA_LINE bytes: rear load, water,
  * smallest and largest front load, each as four digits of kilograms, a point
  * and three of grams, one space between and a line feed behind. The front loads
- * are the ends of those that keep every limit with any part of the water
- * aboard, 0 never among them; both are eight hyphens, a blank row, where there
- * is none.
+ * are the ends of those that keep every limit with any part of the water aboard
+ * and at every arm of the front seat, 0 never among them; both are eight hyphens,
+ * a blank row, where there is none.
  *
  * buffer: the record.
  * out: where the lines go, from its front; bytes behind the last stay, and no

@@ -1,6 +1,6 @@
 """What the program `cases` prints, by the oracle's reckoning. A line is described in the program's src/main.rt."""
 
-from oracle import Change, Paired, Sheet, Weighing, add, centre_of_gravity, read_balance, readings, undo
+from oracle import Change, Paired, Seat, Sheet, Weighing, add, centre_of_gravity, read_balance, readings, undo
 
 MOST_U64 = 2**64 - 1
 LEAST_I64, MOST_I64 = -(2**63), 2**63 - 1
@@ -11,6 +11,7 @@ FRONT, REAR, WATER = (-47500, 55000, 110000, 1000), (10000, 100000, 50000), (300
 SHEET = Sheet(25000, 42500, 380000, 450000, 240000, *FRONT, *REAR, *WATER)
 SECOND = Weighing(m=3, p=355, q=90, a=50, b=13350, n=0)
 PAIRED = Paired(m=1, p=300000, q=30000, p2=300001, q2=30010, a=10000, b=500000, n=100000)
+SEAT = Seat(lower=-50000, higher=-45000)
 
 FRESH = ()
 BACK = None
@@ -31,6 +32,10 @@ def as_pair(w, **fields):
 
 def sheet(**fields):
     return SHEET._replace(**fields)
+
+
+def seat(**fields):
+    return SEAT._replace(**fields)
 
 
 def weighed(n=100000):
@@ -594,6 +599,89 @@ def pair_lists():
     in_turn("64 entries", journal, steps)
 
 
+# Seats.
+
+
+def seat_case(label, **fields):
+    answered(f"seat, {label}", add((*weighed(), SHEET), seat(**fields)))
+
+
+def seats():
+    """Each end at its bounds and beside them, and the two in their order."""
+    seat_case("ordinary")
+    for lower in (-2000001, -2000000, -45001, -45000, -44999):
+        seat_case(f"lower {lower}", lower=lower)
+    for higher in (-50001, -50000, -49999, 0, 2000000, 2000001):
+        seat_case(f"higher {higher}", higher=higher)
+    for lower, higher in (
+        *((-2000000, 2000000), (-2000001, 2000000), (-2000000, 2000001), (-2000001, 2000001)),
+        *((-2000000, -2000000), (-2000000, -1999999), (-2000000, -2000001), (-2000001, -2000001), (-1999999, -2000000)),
+        *((2000000, 2000000), (1999999, 2000000), (2000001, 2000000), (2000001, 2000001), (2000000, 1999999)),
+        *((0, 0), (0, 1), (1, 0), (-1, 0), (0, -1), (-1, 1), (1, -1), (2000000, -2000000), (2000001, -2000001)),
+    ):
+        seat_case(f"{lower} to {higher}", lower=lower, higher=higher)
+
+
+def seat_extremes():
+    seat_case("lower at least", lower=LEAST_I64)
+    seat_case("lower at most", lower=MOST_I64)
+    seat_case("higher at least", higher=LEAST_I64)
+    seat_case("higher at most", higher=MOST_I64)
+    for label, lower, higher in (
+        *(("least to most", LEAST_I64, MOST_I64), ("most to least", MOST_I64, LEAST_I64)),
+        *(("least to least", LEAST_I64, LEAST_I64), ("most to most", MOST_I64, MOST_I64)),
+    ):
+        seat_case(label, lower=lower, higher=higher)
+
+
+def seat_orders():
+    """No weighing is asked for. Faults: 64 entries (full), no sheet, an end out of its range (arm), the higher first (reversed)."""
+    full, weighings, here = filled(weighed()), 64 * (WEIGHING,), (*weighed(), SHEET)
+    arm, turned = {"lower": -2000001}, {"lower": -45000, "higher": -50000}
+    for label, journal, entry in (
+        ("none", here, seat()),
+        ("none, and no weighing", (SHEET,), seat()),
+        ("full", full, seat()),
+        ("full and arm", full, seat(**arm)),
+        ("full and reversed", full, seat(**turned)),
+        ("full and no sheet", weighings, seat()),
+        ("full, no sheet and arm", weighings, seat(**arm)),
+        ("full, no sheet and reversed", weighings, seat(**turned)),
+        ("no sheet", weighed(), seat()),
+        ("no sheet and no weighing", FRESH, seat()),
+        ("no sheet and arm", weighed(), seat(**arm)),
+        ("no sheet and reversed", FRESH, seat(**turned)),
+        ("arm", here, seat(**arm)),
+        ("reversed", here, seat(**turned)),
+        ("arm and reversed", here, seat(lower=2000001)),
+        ("arm, and no weighing", (SHEET,), seat(higher=2000001)),
+    ):
+        answered(f"order of a seat, {label}", add(journal, entry))
+
+
+def seat_lists():
+    """Seats count for nothing in the balance, and end with none of the entries behind them."""
+    steps = [("before the sheet", SEAT), ("sheet", SHEET), ("before the weighing", SEAT), ("weighing", SECOND)]
+    steps += [("behind the weighing", seat(lower=-60000)), ("change", Change(55, -700, 1)), ("behind the change", SEAT)]
+    steps += [("a pair", as_pair(SECOND, q2=91)), ("reversed", seat(lower=0)), ("arm", seat(higher=2000001))]
+    steps += [("behind the pair", seat(higher=-50000)), ("another sheet", SHEET), ("behind the other sheet", SEAT)]
+    steps += 10 * [("taken back", BACK)] + [("no sheet left", SEAT), ("nothing to take back", BACK), ("no sheet", SEAT)]
+    in_turn("seats", FRESH, steps)
+
+
+def full_of_seats():
+    journal = answered("64 entries with seats, 63 sheets", repeated(FRESH, SHEET))
+    steps = [("a seat as the 64th", SEAT), ("as the 65th", SEAT), ("reversed as the 65th", seat(lower=0))]
+    steps += [("taken back", BACK), ("reversed as the 64th", seat(lower=0)), ("a weighing as the 64th", SECOND)]
+    steps += [("a seat behind it", SEAT), ("taken back", BACK), ("a seat after all", SEAT)]
+    in_turn("64 entries with seats", journal, steps)
+    journal = answered("63 seats", repeated((SHEET,), SEAT))
+    steps = [("one more", SEAT), ("a weighing", SECOND), ("62 left", BACK), ("a weighing in its place", SECOND)]
+    journal = in_turn("63 seats", journal, steps)
+    journal = answered("63 seats, none left", repeated(journal, BACK))
+    in_turn("63 seats", journal, [("the sheet taken back", BACK), ("nothing to take back", BACK), ("no sheet", SEAT)])
+
+
 def report():
     worked()
     rounding()
@@ -622,3 +710,8 @@ def report():
     pair_orders()
     pair_changes()
     pair_lists()
+    seats()
+    seat_extremes()
+    seat_orders()
+    seat_lists()
+    full_of_seats()

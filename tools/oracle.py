@@ -1,4 +1,4 @@
-"""An independent reckoning of paper 01 and of paper 02's cards 1 and 2 in whole numbers, to hold the programs against.
+"""An independent reckoning of paper 01 and of paper 02's cards 1, 2 and 4 in whole numbers, to hold the programs against.
 
     python3 tools/oracle.py cases > crates/cases/stdout
     python3 tools/oracle.py files > crates/files/stdout
@@ -74,6 +74,11 @@ class Change(NamedTuple):
     c: int
     arm: int
     flag: int
+
+
+class Seat(NamedTuple):
+    lower: int
+    higher: int
 
 
 def is_weight(x):
@@ -152,6 +157,16 @@ def sheet_in_force(journal):
     return sheets[-1] if sheets else None
 
 
+def seat_in_force(journal):
+    """The last seat behind the last sheet; where there is none both ends are that sheet's front arm. None without a sheet."""
+    for entry in reversed(journal):
+        if isinstance(entry, Seat):
+            return entry
+        if isinstance(entry, Sheet):
+            return Seat(entry.front_arm, entry.front_arm)
+    return None
+
+
 def row_count(s):
     return (s.greatest_rear // s.rear_step + 1) * (s.capacity // s.water_step + 1)
 
@@ -222,14 +237,24 @@ def change_number(journal, x):
     return 0
 
 
-NUMBER_OF = {Weighing: weighing_number, Sheet: sheet_number, Change: change_number, Paired: weighing_number}
+def seat_number(journal, f):
+    if len(journal) == MOST_ENTRIES:
+        return FULL
+    if sheet_in_force(journal) is None:
+        return NO_SHEET
+    if not is_arm(f.lower) or not is_arm(f.higher) or f.higher < f.lower:
+        return ARM
+    return 0
+
+
+NUMBER_OF = {Weighing: weighing_number, Sheet: sheet_number, Change: change_number, Paired: weighing_number, Seat: seat_number}
 
 
 # The calls.
 
 
 def add(journal, entry):
-    """A weighing, a sheet, a change or a paired weighing."""
+    """A weighing, a sheet, a change, a paired weighing or a seat."""
     number = NUMBER_OF[type(entry)](journal, entry)
     return (number, journal) if number else (0, journal + (entry,))
 
@@ -252,11 +277,11 @@ def centre_of_gravity(journal):
 
 # The version that is written, and the last kind of entry that each version has.
 VERSION = 2
-LAST_KIND = {1: 3, 2: 4}
-KINDS = {1: Weighing, 2: Sheet, 3: Change, 4: Paired}
+LAST_KIND = {1: 3, 2: 5}
+KINDS = {1: Weighing, 2: Sheet, 3: Change, 4: Paired, 5: Seat}
 KIND_OF = {kind: number for number, kind in KINDS.items()}
 IN_ONE_BYTE = {"m", "flag"}
-SIGNED = {"a", "fwd", "aft", "front_arm", "rear_arm", "water_arm", "c", "arm"}
+SIGNED = {"a", "fwd", "aft", "front_arm", "rear_arm", "water_arm", "c", "arm", "lower", "higher"}
 
 
 def width(field):
@@ -322,11 +347,11 @@ def read(journal, data):
 # A row.
 
 
-def keeps_with(s, balance, rear, p, v):
-    """Whether a front load keeps the lines of limits with v of the water aboard."""
+def keeps_with(s, balance, rear, p, v, arm):
+    """Whether a front load keeps the lines of limits at an arm of its seat, with v of the water aboard."""
     dry = balance.total + HALVES * (p + rear)
     weight = dry + HALVES * v
-    moment = balance.moment + HALVES * (p * s.front_arm + rear * s.rear_arm + v * s.water_arm)
+    moment = balance.moment + HALVES * (p * arm + rear * s.rear_arm + v * s.water_arm)
     return (
         p >= 1
         and dry <= HALVES * s.dry
@@ -337,14 +362,14 @@ def keeps_with(s, balance, rear, p, v):
     )
 
 
-def whole_tank(water):
-    """Each amount that may be left aboard."""
-    return range(water + 1)
+def all_of(span):
+    """Each amount that may be left aboard, or each arm that the pilot may have."""
+    return span
 
 
-def both_ends(water):
-    """The amounts that decide: each line is straight in v. `plates.agreement` holds them against the whole tank."""
-    return (0, water)
+def both_ends(span):
+    """Those that decide: each line is straight in v, and in the arm. `plates.agreement` holds them against all of them."""
+    return sorted({span[0], span[-1]})
 
 
 def steps(s):
@@ -352,11 +377,13 @@ def steps(s):
     return range(-(-s.least_front // s.front_step) * s.front_step, s.greatest_front + 1, s.front_step)
 
 
-def row(s, balance, rear, water, aboard=both_ends):
-    """The smallest and the largest load, or None: step by step from either end."""
+def row(s, seat, balance, rear, water, aboard=both_ends, arms=both_ends):
+    """The smallest and the largest load, or None: step by step from either end, every line at each arm with each v."""
+    tank, travel = range(water + 1), range(seat.lower, seat.higher + 1)
+    tried = [(v, arm) for v in aboard(tank) for arm in arms(travel)]
 
     def keeps(p):
-        return all(keeps_with(s, balance, rear, p, v) for v in aboard(water))
+        return all(keeps_with(s, balance, rear, p, v, arm) for v, arm in tried)
 
     smallest = next(filter(keeps, steps(s)), None)
     return None if smallest is None else (smallest, next(filter(keeps, reversed(steps(s)))))
@@ -383,7 +410,7 @@ def line(rear, water, ends):
 
 def placard(journal, buffer):
     """Number, bytes, rows, blank rows and the buffer afterwards."""
-    balance, s = balance_of(journal), sheet_in_force(journal)
+    balance, s, seat = balance_of(journal), sheet_in_force(journal), seat_in_force(journal)
     if balance is None:
         return UNWEIGHED, 0, 0, 0, buffer
     if s is None:
@@ -391,7 +418,7 @@ def placard(journal, buffer):
     length = 36 * row_count(s)
     if len(buffer) < length:
         return SHORT, 0, 0, 0, buffer
-    rows = [(*loads, row(s, balance, *loads)) for loads in row_loads(s)]
+    rows = [(*loads, row(s, seat, balance, *loads)) for loads in row_loads(s)]
     text = "".join(line(*each) for each in rows).encode()
     assert (len(rows), len(text)) == (row_count(s), length)
     blank = sum(ends is None for _, _, ends in rows)

@@ -2,10 +2,10 @@
 
 import random
 
-from cases import BACK, FRESH, PAIRED, SECOND, as_pair, paired, repeated, sheet, weighing
+from cases import BACK, FRESH, PAIRED, SEAT, SECOND, as_pair, paired, repeated, seat, sheet, weighing
 from files import G, H_CHANGE, PAIR, byte_sum
-from oracle import HALVES, Balance, Change, Paired, Sheet, Weighing, add, balance_of, centre_of_gravity, file_of, placard, read
-from oracle import row, row_loads, sheet_in_force, undo, whole_tank
+from oracle import HALVES, Balance, Change, Paired, Seat, Sheet, Weighing, add, all_of, balance_of, centre_of_gravity, file_of
+from oracle import placard, read, row, row_loads, seat_in_force, sheet_in_force, undo
 
 MOST, MOST_SEAT = 2000000, 500000
 
@@ -83,35 +83,50 @@ def in_turn(title, journal, *steps):
     return journal
 
 
-def rows_of(journal, reckoned=balance_of, **aboard):
+def rows_of(journal, reckoned=balance_of, **tried):
     """Rear load, water and ends of each row."""
-    s = sheet_in_force(journal)
-    return [(*loads, row(s, reckoned(journal), *loads, **aboard)) for loads in row_loads(s)]
+    s, seat = sheet_in_force(journal), seat_in_force(journal)
+    return [(*loads, row(s, seat, reckoned(journal), *loads, **tried)) for loads in row_loads(s)]
 
 
-def ends_of(journal, reckoned=balance_of):
+def ends_of(journal, reckoned=balance_of, **tried):
     """The ends of each row in kilograms, or None."""
-    rows = rows_of(journal, reckoned)
+    rows = rows_of(journal, reckoned, **tried)
     return [ends and tuple(end / 1000 for end in ends) for _, _, ends in rows]
 
 
-# Both ends of the water, against every v from 0 to w.
+# Both ends of the water and of the seat, against every v from 0 to w at every arm.
+
+
+def small_glider(draw, travel):
+    """A sheet, a seat of up to so much travel, and a balance."""
+    fwd, dry, total = draw(-60, 40), draw(60, 200), draw(2, 240)
+    limits = (fwd, fwd + draw(1, 60), dry, dry + draw(0, 40), draw(0, 1) * draw(40, 160))
+    front = (draw(-90, 90), draw(0, 20), draw(20, 60), draw(1, 7))
+    s = Sheet(*limits, *front, draw(-90, 90), 4, 2, draw(-90, 90), 12, 4)
+    balance = Balance(total, total * draw(-80, 80) + draw(0, total), draw(0, total))
+    lower = draw(-90, 90)
+    return s, Seat(lower, lower + draw(min(travel, 1), travel)), balance
+
+
+def middle_of(travel):
+    return [travel[len(travel) // 2]]
 
 
 def agreement():
+    """Neither end of a seat that moves will do for the other, nor the middle for both."""
     draw = random.Random(1).randint
-    given = 0
-    for _ in range(2000):
-        fwd, dry, total = draw(-60, 40), draw(60, 200), draw(2, 240)
-        limits = (fwd, fwd + draw(1, 60), dry, dry + draw(0, 40), draw(0, 1) * draw(40, 160))
-        front = (draw(-90, 90), draw(0, 20), draw(20, 60), draw(1, 7))
-        s = Sheet(*limits, *front, draw(-90, 90), 4, 2, draw(-90, 90), 12, 4)
-        balance = Balance(total, total * draw(-80, 80) + draw(0, total), draw(0, total))
-        for loads in row_loads(s):
-            ends = row(s, balance, *loads)
-            assert ends == row(s, balance, *loads, aboard=whole_tank)
+    judged = {"lower": lambda travel: travel[:1], "higher": lambda travel: travel[-1:], "middle": middle_of}
+    given, wrong = 0, dict.fromkeys(judged, 0)
+    for travel in 2000 * (0, 20):
+        glider = small_glider(draw, travel)
+        for loads in row_loads(glider[0]):
+            ends = row(*glider, *loads)
+            assert ends == row(*glider, *loads, aboard=all_of, arms=all_of)
             given += ends is not None
-    assert 1000 < given < 17000
+            for name, arms in judged.items():
+                wrong[name] += ends != row(*glider, *loads, arms=arms)
+    assert 8000 < given < 40000 and 1000 < min(wrong.values())
 
 
 # The worked cases.
@@ -125,7 +140,7 @@ I_SHEET = G[1]._replace(front_arm=41625)
 
 def mistakes():
     """The plates that the paper warns of."""
-    assert rows_of(G, aboard=lambda water: [water])[1] == (0, 50000, (64000, 92000))
+    assert rows_of(G, aboard=lambda tank: tank[-1:])[1] == (0, 50000, (64000, 92000))
     fine = (G[0], G[1]._replace(front_step=1), H_CHANGE)
     assert rows_of(fine)[0] == (0, 0, (63001, 87500))
 
@@ -517,13 +532,14 @@ def narrowest():
 
 
 def widest():
-    """All but 1 g taken out at one arm and put in at the other, by turns."""
+    """All but 1 g taken out at one arm and put in at the other, by turns; and then a seat of every arm."""
     for label, q, arm, b in (("greatest", MOST, MOST, MOST), ("least", 0, -MOST, 1)):
         out, back = Change(-1999999, -arm, 0), Change(1999999, arm, 0)
         far = lax(front_arm=-arm, rear_arm=-arm, greatest_rear=MOST_SEAT, rear_step=MOST_SEAT)
         steps = [far, Weighing(1, MOST, q, arm, b, 0)] + 30 * [out, back]
         printed(f"{label} moment, 1 g", played(FRESH, [*steps, out]))
-        printed(f"{label} moment, 64 entries", played(FRESH, [*steps, out, back, AGAIN]))
+        journal = printed(f"{label} moment, 64 entries", played(FRESH, [*steps, out, back, AGAIN]))
+        printed(f"{label} moment, seat of every arm", played(journal, [BACK, Seat(-MOST, MOST), AGAIN]))
 
 
 # Paired weighings. Totals of 288000 and 288001 g under 380 kg leave 91 kg, where G's leave 92.
@@ -611,6 +627,174 @@ def pair_lists():
     in_turn("pairs", journal, *steps, ("taken back", BACK))
 
 
+# Seats. That of G moves 25 mm either way, as `SEAT` has it.
+
+
+def by_arm(s, arm):
+    """The same sheet with another front arm."""
+    return s._replace(front_arm=arm)
+
+
+def seat_plates():
+    """Equal ends print as the front arm does, and the sheet's own arm counts no longer, wherever it is."""
+    g, g_sheet = G
+    still, far = Seat(-47500, -47500), Seat(41625, 41625)
+    plain = placard(G, bytes(108))
+    for s in (g_sheet, I_SHEET, by_arm(g_sheet, -MOST), by_arm(g_sheet, MOST)):
+        assert placard((g, s, still), bytes(108)) == plain and ends_of((g, s, far)) == 3 * [None]
+    assert ends_of((*G, SEAT)) == [(73, 92), (73, 92), None]
+    assert rows_of((g, fine(g_sheet), SEAT))[0] == (0, 0, (72176, 92000))
+    assert ends_of((A, J_SHEET, Seat(-123200, -123200))) == ends_of((A, J_SHEET))
+    for label, steps in {
+        "G, equal ends": [*G, still],
+        "G, equal ends, read back": [*G, still, AGAIN],
+        "G": [*G, SEAT],
+        "G, read back": [*G, SEAT, AGAIN],
+        "G, by the gram": [g, fine(g_sheet), SEAT],
+        "G, from its arm aft": [*G, seat(lower=-47500)],
+        "G, from its arm forward": [*G, seat(higher=-47500)],
+        "G, its arm behind the seat": [g, by_arm(g_sheet, -44999), SEAT],
+        "G, its arm ahead of the seat": [g, by_arm(g_sheet, -50001), SEAT],
+        "G, its arm far behind": [g, by_arm(g_sheet, MOST), still],
+        "G, its arm far ahead": [g, by_arm(g_sheet, -MOST), SEAT],
+        "H": [*H, SEAT],
+        "H, the seat first": [*G, SEAT, H_CHANGE],
+        "H, by the gram": [g, fine(g_sheet), H_CHANGE, SEAT],
+        "I": [g, I_SHEET, far],
+        "I, in G's seat": [g, I_SHEET, SEAT],
+        "G, in I's": [*G, far],
+        "J, equal ends": [A, J_SHEET, Seat(-123200, -123200)],
+        "J": [A, J_SHEET, Seat(-126000, -120000)],
+        "J, read back": [A, J_SHEET, Seat(-126000, -120000), AGAIN],
+        "288000 and 288001": [*PAIR, SEAT],
+        "288000 and 288001, by the gram": [PAIR[0], fine(g_sheet), SEAT],
+    }.items():
+        printed(f"seat, {label}", played(FRESH, steps))
+
+
+def seat_buffers():
+    sizes("G with a seat", [*G, SEAT], 0, 107, 108, 109)
+    sizes("a sheet and a seat", [G[1], SEAT], 0, 108)
+    sizes("a seat without a sheet", [G[0], SEAT], 0, 108)
+
+
+def common(first, second):
+    """What two ranges have in common, or None."""
+    if not first or not second:
+        return None
+    low, high = max(first[0], second[0]), min(first[1], second[1])
+    return (low, high) if low <= high else None
+
+
+def seat_case(label, w, s, f):
+    """A row is what the rows of the two ends have in common; they are handed back."""
+    alone = [ends_of((w, by_arm(s, arm)))[0] for arm in f]
+    assert ends_of((w, s, f)) == [common(*alone)], label
+    printed(f"seat {f.lower} to {f.higher}, {label}", played(FRESH, [s, f, w]))
+    return alone
+
+
+def seat_arms():
+    """Ends on each side of the limits and on them: FWD 10000, safe aft limit 29000. In some rows either end is good for some
+    load, and no load is good for both."""
+    s, arms = lax(fwd=10000, aft=30000, front_arm=20000), (-50000, 10000, 20000, 29000, 50000)
+    parted = 0
+    for f in (Seat(lower, higher) for lower in arms for higher in arms if lower <= higher):
+        for centre in (5000, 15000, 29000, 45000):
+            alone = seat_case(f"centre {centre}", level(a=centre), s, f)
+            parted += all(alone) and not common(*alone)
+    assert 0 < parted
+
+
+def seat_edges():
+    """Ends on a limit and one beside it, with the glider on a limit or one inside."""
+    s = lax(fwd=10000, aft=30000)
+    for centre in (10000, 10001, 28999, 29000):
+        for lower, higher in ((9999, 29000), (10000, 29001), (9999, 29001), (10000, 29000), (10001, 28999)):
+            seat_case(f"centre {centre}", level(a=centre), s, Seat(lower, higher))
+
+
+def seat_limits_met():
+    """A load that meets a limit at one end is kept, and with that end one further out it is not. The middle lets more pass."""
+    forward, aft = lax(fwd=10000, greatest_front=130000), lax(fwd=0, aft=20000, greatest_front=130000)
+    middle = {"arms": middle_of}
+    assert ends_of((level(a=24000), aft, Seat(-96000, -1000))) == [(50, 50)]
+    assert ends_of((level(a=24000), aft, Seat(-96000, -1000)), **middle) == [(15, 98)]
+    for label, w, s, ends in (
+        ("forward at 80", level(a=18000), forward, [(-10000, 0), (-10001, 0), (-9999, 0), (-10000, 10000), (-10000, -10000)]),
+        ("forward at 80, by the gram", level(a=18000), fine(forward), [(-10000, 0), (-10001, 0), (-9999, 0)]),
+        ("aft at 50", level(a=24000), aft, [(-40000, -1000), (-40000, -999), (-40000, -1001), (-1000, -1000)]),
+        ("aft at 50, by the gram", level(a=24000), fine(aft), [(-40000, -1000), (-40000, -999), (-40000, -1001)]),
+        ("both at 50", level(a=24000), aft, [(-96000, -1000), (-96001, -1000), (-96000, -999), (-96001, -999)]),
+        ("both at 50, by the gram", level(a=24000), fine(aft), [(-96000, -1000), (-95999, -1001), (-96001, -999)]),
+        ("aft missed by one", level(a=24000, q=1), aft, [(-96000, -1000), (-96000, -1001)]),
+        ("forward missed by one", level(m=4, p=200001, q=1, a=18000), forward, [(-10000, 0), (-9999, 0)]),
+        ("safe aft 41634.5", level(p=1, q=1, a=41634, n=0), a_gram(fwd=25000, aft=42510), [(41633, 41634), (41634, 41635)]),
+        ("safe aft 0.95", level(p=19, q=19, n=0), a_gram(fwd=0, aft=1), [(-19, 0), (-20, 0), (0, 1)]),
+        ("nobody, FWD met", level(a=10000), forward, [(0, 20000), (9999, 9999)]),
+        ("nobody, safe aft met", level(a=19000), aft, [(0, 20000), (19000, 19001), (0, 19000)]),
+    ):
+        for f in ends:
+            seat_case(label, w, s, Seat(*f))
+
+
+def seat_loads():
+    """Rear loads and water on each side of the limits: the seat moves 100 mm either way."""
+    thirds = {"greatest_rear": 60000, "rear_step": 30000, "capacity": 60000, "water_step": 30000}
+    s, f = lax(fwd=10000, aft=30000, front_arm=-20000, **thirds), Seat(-30000, -10000)
+    for rear in (-60000, 20000, 60000):
+        for water in (-80000, 20000, 80000):
+            label = f"seat, rear arm {rear}, water arm {water}"
+            printed(label, played((level(a=40000),), [s._replace(rear_arm=rear, water_arm=water), f]))
+    w, full = level(a=40000), sheet(greatest_rear=15, rear_step=1, capacity=15, water_step=1)
+    printed("seat, weights bind", played((w,), [s._replace(nlp=180000, dry=270000, wet=310000), f]))
+    printed("seat, 256 rows", played((weighing(),), [full, SEAT]), 9216)
+
+
+def seat_extremes():
+    """Ends as far out as they go, outside of all limits, and with limits a unit apart."""
+    loads = {"greatest_rear": MOST_SEAT, "rear_step": MOST_SEAT, "capacity": 1000000, "water_step": 1000000}
+    s = lax(rear_arm=-MOST, water_arm=MOST, **loads)
+    for lower, higher in ((-MOST, MOST), (-MOST, -MOST), (MOST, MOST), (-MOST, 1 - MOST), (MOST - 1, MOST)):
+        for total, a in ((1, 0), (499000, -MOST), (1499000, MOST)):
+            label = f"seat {lower} to {higher}, {total} g, centre {a}"
+            printed(label, played(FRESH, [s, Seat(lower, higher), level(p=total, a=a, n=0)]))
+    s = lax(fwd=-1500000, aft=1500000)
+    for a in (-700000, 0, 700000):
+        seat_case(f"centre {a}", level(a=a), s, Seat(-MOST, MOST))
+    for label, arm, fwd, aft in (("ahead", -MOST, -MOST, 1 - MOST), ("behind", MOST - 1, MOST - 1, MOST)):
+        s = lax(fwd=fwd, aft=aft, greatest_front=70000, front_step=7, water_arm=arm, capacity=1000000, water_step=500000)
+        for more in (0, 1):
+            steps = [level(p=1, a=arm, n=0), s, Seat(arm, arm + more)]
+            printed(f"seat, limits a unit apart, {label}, travel {more}", played(FRESH, steps))
+
+
+def seat_lists():
+    """A seat goes on over weighings and changes; a sheet ends it, even an equal one, until that is taken back."""
+    g, g_sheet = G
+    aft, still = seat(higher=-40000), Seat(-47500, -47500)
+    steps = [("no sheet", SEAT), ("sheet", g_sheet), ("a seat", SEAT), ("weighing", g), ("change", H_CHANGE)]
+    steps += [("a pair", PAIR[0]), ("reversed", seat(lower=-44999)), ("no arm", seat(higher=MOST + 1)), ("read back", AGAIN)]
+    steps += [("another seat", aft), ("equal ends", still), ("read back", AGAIN)] + 2 * [("taken back", BACK)]
+    steps += [("the same sheet", g_sheet), ("change", H_CHANGE)] + 2 * [("taken back", BACK)]
+    steps += [("another sheet", I_SHEET), ("its seat", aft), ("read back", AGAIN), ("taken back", BACK), ("no file", READ_CUT)]
+    steps += 4 * [("taken back", BACK)] + [("another seat", aft)] + 2 * [("taken back", BACK)]
+    steps += [("weighing", g), ("taken back", BACK), ("taken back", BACK), ("no sheet left", SEAT)]
+    in_turn("seats", FRESH, *steps)
+    steps = [("G's file", READ_G), ("a seat", SEAT), ("no file", READ_CUT), ("taken back", BACK), ("a seat", SEAT)]
+    in_turn("seats", (*G, aft), *steps, ("G's file", READ_G), ("taken back", BACK), ("no sheet", SEAT))
+
+
+def full_of_seats():
+    g, g_sheet = G
+    journal = printed("seats, 62 sheets and a weighing", played((g,), 62 * [g_sheet]))
+    steps = [("the 64th", SEAT), ("the 65th", SEAT), ("reversed", seat(lower=0)), ("read back", AGAIN), ("taken back", BACK)]
+    in_turn("seats", journal, *steps, ("the 64th after all", seat(higher=-40000)))
+    turns = 31 * [SEAT, seat(higher=-40000)]
+    journal = printed("seats, 62 behind a sheet", played(G, turns))
+    in_turn("seats", journal, ("a sheet", g_sheet), ("read back", AGAIN), ("taken back", BACK), ("a sheet", g_sheet))
+
+
 # Gliders drawn by lot: the least of each number, and how many there are from there. The least load is drawn before the
 # front arm.
 
@@ -635,15 +819,23 @@ def glider_by_lot(seed):
     return w, Sheet(fwd, aft, dry, wet, nlp, arm, least, *rest)
 
 
+def seat_by_lot(seed, s):
+    """Up to 79.99 mm ahead of the front arm, and up to as much behind it."""
+    ahead, behind = drawn(seed, (0, 0), (8000, 8000))
+    return Seat(s.front_arm - ahead, s.front_arm + behind)
+
+
 def by_lot():
-    """The last twenty are weighed twice: up to 999 g more on one scale, and up to 99 g on the other."""
+    """From the 50th on they are weighed twice: up to 999 g more on one scale, and up to 99 g on the other. From the 70th on
+    they have a seat that moves."""
     rows = blank = 0
-    for seed in range(70):
+    for seed in range(90):
         w, s = glider_by_lot(seed)
         if 50 <= seed:
             more, behind = drawn(seed, (0, 0), (1000, 100))
             w = as_pair(w, p2=w.p + more, q2=w.q + behind)
-        journal = printed(f"lot {seed}", played(FRESH, [w, s]))
+        seats = [seat_by_lot(seed, s)] if 70 <= seed else []
+        journal = printed(f"lot {seed}", played(FRESH, [w, s, *seats]))
         _, _, more_rows, more_blank, _ = placard(journal, bytes(9216))
         rows, blank = rows + more_rows, blank + more_blank
     assert 40 < blank < rows - 40
@@ -674,4 +866,13 @@ def report():
     pair_weights()
     pair_limits()
     pair_lists()
+    seat_plates()
+    seat_buffers()
+    seat_arms()
+    seat_edges()
+    seat_limits_met()
+    seat_loads()
+    seat_extremes()
+    seat_lists()
+    full_of_seats()
     by_lot()

@@ -38,14 +38,12 @@ pub record Below (n : ℕ) (x : Sides) : Type 0 where
 pub record ArmsIn (a : Arms) : Type 0 where
   pub fwd : Below 2000000 (a .fwd)
   pub safe : Below 40000000 (a .safe)
-  pub front : Below 2000000 (a .front)
   pub rear : Below 2000000 (a .rear)
   pub water : Below 2000000 (a .water)
 
 pub record ArmsOf (s : Sheet) (a : Arms) : Type 0 where
   pub fwd : valueOf (a .fwd) ≡ s .fwd
   pub safe : valueOf (a .safe) ≡ safeArm s
-  pub front : valueOf (a .front) ≡ s .front .arm
   pub rear : valueOf (a .rear) ≡ s .rear .arm
   pub water : valueOf (a .water) ≡ s .water .arm
   pub ranges : ArmsIn a

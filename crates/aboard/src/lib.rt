@@ -11,11 +11,10 @@ ghost use Rattle.paper.specs.Refusals.{firstNumber, sheetFaults};
 ghost use Rattle.balance.specs.Balance.{plain, Bounded};
 ghost use Rattle.aboard.specs.Aboard.{Below, timesOf, safeOf, ArmsOf, ArmsIn, valueOf, sumOf, laidOut, plus, Beside, LoadOf, room, Room, Share};
 
-// FWD, 20 times the safe aft limit, and the arms of the three stations, each by its two sides.
+// FWD, 20 times the safe aft limit, and the arms of rear seat and water, each by its two sides.
 pub struct Arms {
     pub fwd: Sides,
     pub safe: Sides,
-    pub front: Sides,
     pub rear: Sides,
     pub water: Sides,
 }
@@ -71,7 +70,6 @@ pub fn arms_of(s: Sheet) -> Arms
     Arms {
         fwd: fwd,
         safe: safe_arm(fwd, aft),
-        front: laws::split(s.front.arm),
         rear: laws::split(s.rear.arm),
         water: laws::split(s.water.arm),
     }

@@ -2,6 +2,7 @@
 use paper::Change;
 use paper::Entry;
 use paper::Paired;
+use paper::Seat;
 use paper::Sheet;
 use paper::Station;
 use paper::Weighing;
@@ -84,4 +85,11 @@ pub fn change_of(c: i64, arm: i64, flag: u64) -> Entry
     ensures { λ r. ⌜ r ≡ entry.Change (record { c = c; arm = arm; flag = flag }) ⌝ }
 {
     Entry::Change(Change { c, arm, flag })
+}
+
+// A seat entry.
+pub fn seat_of(lower: i64, higher: i64) -> Entry
+    ensures { λ r. ⌜ r ≡ entry.Seat (record { lower = lower; higher = higher }) ⌝ }
+{
+    Entry::Seat(Seat { lower, higher })
 }

@@ -1,6 +1,7 @@
 // The logbook: a text whose lines, in turn, are calls on a fresh record.
 use judge::Judged;
 use judge::Standing;
+use judge::Weighed;
 use language::Line;
 use record::Record;
 use record::Slot;
@@ -32,7 +33,10 @@ pub fn read(s: &[u8]) -> Reading
     ensures { λ r. ⌜ r ≡ readingOf (bookOf (now (s .entry))) ⌝ }
 {
     let mut log = Record::fresh();
-    let mut standing = Standing::Unweighed;
+    let mut standing = Standing {
+        weighed: Weighed::Never,
+        sheet: false,
+    };
     let mut at = 0;
     let mut line = 0;
     while at < s.len() {

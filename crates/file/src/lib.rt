@@ -3,6 +3,7 @@ use entries::Walk;
 use header::HEADER;
 use judge::Judged;
 use judge::Standing;
+use judge::Weighed;
 use paper::Written;
 use record::Kept;
 use record::Record;
@@ -88,7 +89,10 @@ pub fn read(r: Record, s: &[u8]) -> Kept
     let kinds = header::last_kind(s[4]);
     let count = s[5] as usize;
     let mut log = Record::fresh();
-    let mut standing = Standing::Unweighed;
+    let mut standing = Standing {
+        weighed: Weighed::Never,
+        sheet: false,
+    };
     let mut at = HEADER;
     let mut i = 0;
     while i < count {

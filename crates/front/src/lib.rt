@@ -50,8 +50,7 @@ pub fn centre(buffer: &[u8]) -> CentreOfGravity
             centre: 0,
         };
     };
-    let standing = found.standing;
-    centre::answer(standing)
+    centre::answer(found.standing)
 }
 
 // The placard, into another buffer.
@@ -66,7 +65,6 @@ pub fn placard(buffer: &[u8], out: &mut [u8]) -> Placard
             blank: 0,
         };
     };
-    let standing = found.standing;
     let sheet = found.sheet;
-    page::answer(standing, sheet, out)
+    page::answer(found.standing, sheet, out)
 }

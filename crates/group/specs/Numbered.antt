@@ -3,6 +3,7 @@ use Prim.Native.Nat.{ℕ, _+_, _*_, _/_, _%_}
 use mathlib.Core.Bool.{cond}
 use mathlib.Core.List.{List, map}
 use Rattle.paper.specs.declared.Sheet.{Sheet}
+use Rattle.paper.specs.declared.Seat.{Seat}
 use Rattle.paper.specs.declared.Row.{Row}
 use Rattle.paper.specs.Record.{Balance}
 use Rattle.paper.specs.Rows.{row, isBlank, below, joined}
@@ -23,19 +24,19 @@ rearAt s i = i / waters s * s .rear .step
 abbrev pub waterAt : Sheet → ℕ → ℕ
 waterAt s i = i % waters s * s .water .step
 
-abbrev pub rowAt : Sheet → Balance → ℕ → Row
-rowAt s b i = row s b (rearAt s i) (waterAt s i)
+abbrev pub rowAt : Sheet → Seat → Balance → ℕ → Row
+rowAt s f b i = row s f b (rearAt s i) (waterAt s i)
 
-abbrev pub lineAt : Sheet → Balance → ℕ → List ℕ
-lineAt s b i = line (rearAt s i) (waterAt s i) (rowAt s b i)
+abbrev pub lineAt : Sheet → Seat → Balance → ℕ → List ℕ
+lineAt s f b i = line (rearAt s i) (waterAt s i) (rowAt s f b i)
 
 -- a blank row counts for one
 abbrev pub blanks : Row → ℕ
 blanks x = cond (isBlank x) 1 0
 
 -- the lines and the blank ones of the first i rows
-abbrev pub linesTo : Sheet → Balance → ℕ → List ℕ
-linesTo s b i = joined (map (lineAt s b) (below i))
+abbrev pub linesTo : Sheet → Seat → Balance → ℕ → List ℕ
+linesTo s f b i = joined (map (lineAt s f b) (below i))
 
-abbrev pub blanksTo : Sheet → Balance → ℕ → ℕ
-blanksTo s b i = blankOf (map (rowAt s b) (below i))
+abbrev pub blanksTo : Sheet → Seat → Balance → ℕ → ℕ
+blanksTo s f b i = blankOf (map (rowAt s f b) (below i))

@@ -6,13 +6,13 @@ use lib.ListN.{getD}
 use Rattle.paper.specs.Placard.{kilograms}
 use Rattle.paper.specs.declared.Sheet.{Sheet}
 use Rattle.aboard.specs.Aboard.{ArmsOf, LoadOf, Share}
-use Rattle.limits.specs.Seats.{SeatOf}
+use Rattle.limits.specs.Seats.{FrontOf}
 use Rattle.line.specs.Word.{word}
 use Rattle.group.specs.declared.Terms.{Terms}
 
 pub record TermsOf (s : Sheet) (t : Terms) : Type 0 where
   pub arms : ArmsOf s (t .arms)
-  pub seat : SeatOf s (t .seat)
+  pub front : FrontOf s (t .front)
   pub water : LoadOf s (s .water .step) (s .water .arm) (t .share)
   pub share : Share (t .share)
 

@@ -2,13 +2,15 @@
 use aboard::Arms;
 use aboard::Laden;
 use balance::Balance;
-use limits::Seat;
+use limits::Front;
 use paper::MOST_ROWS;
 use paper::Row;
+use paper::Seat;
 use paper::Sheet;
 use paper::Weight;
 use solver::Span;
 ghost use mathlib.Core.Path.{_≡_};
+ghost use mathlib.Core.Bool.{false};
 ghost use mathlib.Core.List.{List};
 ghost use Prim.Native.Nat.{ℕ, _+_, _*_, _≤_, _<_};
 ghost use lib.ListN.{length};
@@ -16,7 +18,7 @@ ghost use Rattle.laws.specs.Written.{written};
 ghost use Rattle.paper.specs.Record.{Balance as Plain};
 ghost use Rattle.paper.specs.Rows.{row, rowCount};
 ghost use Rattle.paper.specs.Placard.{kilograms, line, lineLength};
-ghost use Rattle.paper.specs.Refusals.{firstNumber, sheetFaults};
+ghost use Rattle.paper.specs.Refusals.{firstNumber, sheetFaults, badEnds};
 ghost use Rattle.balance.specs.Balance.{plain, Bounded};
 ghost use Rattle.aboard.specs.Aboard.{Beside, Room};
 ghost use Rattle.limits.specs.Seats.{Seated, NoneOf};
@@ -33,19 +35,19 @@ pub const WATERS: usize = MOST_ROWS as usize;
 // What all rows of a placard have in common: the arms, the front seat, and a step of water.
 pub struct Terms {
     pub arms: Arms,
-    pub seat: Seat,
+    pub front: Front,
     pub share: Laden,
 }
 
-// Those of an accepted sheet.
-pub fn terms_of(s: Sheet) -> Terms
-    requires { ⌜ firstNumber (sheetFaults s) ≡ 0 ⌝ }
-    ensures { λ t. ⌜ TermsOf s t ⌝ }
+// Those of an accepted sheet, whose front arm lies between the ends of an accepted seat.
+pub fn terms_of(s: Sheet, f: Seat) -> Terms
+    requires { ⌜ (firstNumber (sheetFaults s) ≡ 0) × (badEnds f ≡ false) ⌝ }
+    ensures { λ t. ⌜ (t .front .seat ≡ f) × TermsOf s t ⌝ }
 {
     let arms = aboard::arms_of(s);
     Terms {
         arms: arms,
-        seat: limits::seat_of(s, arms),
+        front: limits::front_of(s, f, arms),
         share: aboard::grams_at(s.water.step, arms.water, arms),
     }
 }
@@ -87,9 +89,9 @@ fn put_row(
     out: &mut [u8],
 ) -> usize
     requires { ⌜ (firstNumber (sheetFaults s) ≡ 0) × TermsOf s t × Seated s span × Room 256 x × (i < 256) × (lineLength * (i + 1) ≤ length (now out)) ⌝ }
-    ensures { λ n. ⌜ (n ≤ 1) × ((b : Plain) (r w : ℕ) → rear ≡ word (kilograms r) → water ≡ word (kilograms w) → Beside s b r w x → NoneOf s b r span → (n ≡ blanks (row s b r w)) × (now (out .exit) ≡ written (now (out .entry)) (lineLength * i) (line r w (row s b r w)))) ⌝ }
+    ensures { λ n. ⌜ (n ≤ 1) × ((b : Plain) (r w : ℕ) → rear ≡ word (kilograms r) → water ≡ word (kilograms w) → Beside s b r w x → NoneOf s (t .front .seat) b r span → (n ≡ blanks (row s (t .front .seat) b r w)) × (now (out .exit) ≡ written (now (out .entry)) (lineLength * i) (line r w (row s (t .front .seat) b r w)))) ⌝ }
 {
-    let y = row::row(s, t.seat, span, x);
+    let y = row::row(s, t.front, span, x);
     line::put_line(&mut out[LINE * i..], rear, water, y);
     blank(y)
 }
@@ -106,11 +108,11 @@ pub fn put_group(
     out: &mut [u8],
 ) -> usize
     requires { ⌜ (firstNumber (sheetFaults s) ≡ 0) × TermsOf s t × Bounded 1024 b × (waters ≡ Numbered·waters s) × (j < rears s) × FieldsOf s waters (now fields) × (lineLength * rowCount s ≤ length (now out)) ⌝ }
-    ensures { λ n. ⌜ (n ≤ waters) × (n + blanksTo s (plain b) (j * waters) ≡ blanksTo s (plain b) (j * waters + waters)) × (length (now (out .exit)) ≡ length (now (out .entry))) × ((lent : List ℕ) → length lent ≡ length (now (out .entry)) → now (out .entry) ≡ written lent 0 (linesTo s (plain b) (j * waters)) → now (out .exit) ≡ written lent 0 (linesTo s (plain b) (j * waters + waters))) ⌝ }
+    ensures { λ n. ⌜ (n ≤ waters) × (n + blanksTo s (t .front .seat) (plain b) (j * waters) ≡ blanksTo s (t .front .seat) (plain b) (j * waters + waters)) × (length (now (out .exit)) ≡ length (now (out .entry))) × ((lent : List ℕ) → length lent ≡ length (now (out .entry)) → now (out .entry) ≡ written lent 0 (linesTo s (t .front .seat) (plain b) (j * waters)) → now (out .exit) ≡ written lent 0 (linesTo s (t .front .seat) (plain b) (j * waters + waters))) ⌝ }
 {
     let rear = j as u64 * s.rear.step;
     let mut x = aboard::beside(t.arms, b, rear);
-    let span = limits::with_none(s, t.seat, x, b.nonlifting + Weight::HALVES * rear);
+    let span = limits::with_none(s, t.front, x, b.nonlifting + Weight::HALVES * rear);
     let field = line::field(rear);
     let first = j * waters;
     let mut none = 0;

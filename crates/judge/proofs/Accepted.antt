@@ -10,14 +10,14 @@ use borrow.Author.Tests.{eq-eqb, eqb-true}
 use Rattle.laws.specs.Tests.{left, right}
 use Rattle.laws.specs.Lists.{length-more}
 use Rattle.paper.specs.declared.Entry.{Entry}
-use Rattle.paper.specs.Record.{balanceOf}
 use Rattle.paper.specs.Refusals.{entryNumber, acceptedAfter, accepted}
+use Rattle.judge.specs.Standing.{standsIn}
 use Rattle.judge.proofs.Following.{number-at}
 use Rattle.judge.proofs.Judging.{room-of}
 
 -- an entry that gets no number finds room
 pub room-for : (es : List Entry) (e : Entry) → entryNumber es e ≡ 0 → length es < 64
-room-for es e n = room-of (length es) (balanceOf es) e (sym (number-at es e) ∙ n)
+room-for es e n = room-of (length es) (standsIn es) e (sym (number-at es e) ∙ n)
 
 pub accepted-append : (es fs gs : List Entry) → acceptedAfter es (fs ++ gs) ≡ (acceptedAfter es fs && acceptedAfter (es ++ fs) gs)
 unfolding acceptedAfter

@@ -4,19 +4,27 @@ use paper::CAPACITY;
 use paper::Change;
 use paper::Entry;
 use paper::Paired;
+use paper::Seat;
 use paper::Sheet;
 use paper::Weighing;
 ghost use mathlib.Core.Path.{_≡_};
+ghost use mathlib.Core.Bool.{true};
 ghost use mathlib.Core.Option.{some, Option·map};
 ghost use Prim.Native.Nat.{ℕ, _+_};
 ghost use Rattle.paper.specs.Record as paper;
-ghost use Rattle.paper.specs.Refusals.{firstNumber, weighingFaults, sheetFaults, changeFaults};
+ghost use Rattle.paper.specs.Refusals.{firstNumber, weighingFaults, sheetFaults, changeFaults, seatFaults};
 ghost use Rattle.judge.specs.Standing.{plainly, Sound, numberAt, after, Says};
 
-// What stands in a list: no weighing, or the balance of the last one and the changes behind it.
-pub enum Standing {
-    Unweighed,
-    Weighed(Balance),
+// No weighing, or the balance of the last one and the changes behind it.
+pub enum Weighed {
+    Never,
+    Balance(Balance),
+}
+
+// What stands in a list: what was weighed, and whether there is a sheet.
+pub struct Standing {
+    pub weighed: Weighed,
+    pub sheet: bool,
 }
 
 // What an entry gets: its number of refusal, or what stands once it is added.
@@ -26,51 +34,86 @@ pub enum Judged {
 }
 
 // A weighing, behind 9.
-fn judge_weighing(w: Weighing) -> Judged
-    ensures { λ r. ⌜ ((k : ℕ) → Says (firstNumber (weighingFaults (paper.alike w))) (some (paper.weighed (paper.alike w))) (k + 1) r) ⌝ }
+fn judge_weighing(sheet: bool, w: Weighing) -> Judged
+    ensures { λ r. ⌜ ((k : ℕ) → Says (firstNumber (weighingFaults (paper.alike w))) (record { balance = some (paper.weighed (paper.alike w)); sheet = sheet }) (k + 1) r) ⌝ }
 {
     let n = weighing::number(w);
     if n != 0 {
         return Judged::Refused(n);
     }
-    Judged::Accepted(Standing::Weighed(weighing::weighed(w)))
+    let weighed = Weighed::Balance(weighing::weighed(w));
+    Judged::Accepted(Standing { weighed, sheet })
 }
 
 // A paired weighing, behind 9.
-fn judge_paired(x: Paired) -> Judged
-    ensures { λ r. ⌜ ((k : ℕ) → Says (firstNumber (weighingFaults (paper.paired x))) (some (paper.weighed (paper.paired x))) (k + 1) r) ⌝ }
+fn judge_paired(sheet: bool, x: Paired) -> Judged
+    ensures { λ r. ⌜ ((k : ℕ) → Says (firstNumber (weighingFaults (paper.paired x))) (record { balance = some (paper.weighed (paper.paired x)); sheet = sheet }) (k + 1) r) ⌝ }
 {
     let n = weighing::paired_number(x);
     if n != 0 {
         return Judged::Refused(n);
     }
-    Judged::Accepted(Standing::Weighed(weighing::paired(x)))
+    let weighed = Weighed::Balance(weighing::paired(x));
+    Judged::Accepted(Standing { weighed, sheet })
 }
 
 // A data sheet, behind 9.
 fn judge_sheet(standing: Standing, s: Sheet) -> Judged
-    ensures { λ r. ⌜ ((k : ℕ) → Sound k standing → Says (firstNumber (sheetFaults s)) (plainly standing) (k + 1) r) ⌝ }
+    ensures { λ r. ⌜ ((k : ℕ) → Sound k standing → Says (firstNumber (sheetFaults s)) (record { balance = plainly standing .balance; sheet = true }) (k + 1) r) ⌝ }
 {
     let n = sheet::number(s);
     if n != 0 {
         return Judged::Refused(n);
     }
-    Judged::Accepted(standing)
+    let weighed = standing.weighed;
+    Judged::Accepted(Standing {
+        weighed,
+        sheet: true,
+    })
 }
 
 // A change, behind 9.
 fn judge_change(standing: Standing, x: Change) -> Judged
     requires { ⌜ Sound 1024 standing ⌝ }
-    ensures { λ r. ⌜ ((k : ℕ) → Sound k standing → Says (firstNumber (changeFaults (plainly standing) x)) (Option·map (λ b. paper.changed b x) (plainly standing)) (k + 1) r) ⌝ }
+    ensures { λ r. ⌜ ((k : ℕ) → Sound k standing → Says (firstNumber (changeFaults (plainly standing .balance) x)) (record { balance = Option·map (λ b. paper.changed b x) (plainly standing .balance); sheet = plainly standing .sheet }) (k + 1) r) ⌝ }
 {
-    let Standing::Weighed(b) = standing else {
+    let last = standing.weighed;
+    let Weighed::Balance(b) = last else {
         return Judged::Refused(7);
     };
     let n = change::number(b, x);
     if n != 0 {
         return Judged::Refused(n);
     }
-    Judged::Accepted(Standing::Weighed(change::changed(b, x)))
+    let weighed = Weighed::Balance(change::changed(b, x));
+    Judged::Accepted(Standing {
+        weighed,
+        sheet: standing.sheet,
+    })
+}
+
+// The number of a seat entry, behind 9; `sheet` tells whether a sheet stands.
+fn seat_number(sheet: bool, f: Seat) -> u64
+    ensures { λ n. ⌜ n ≡ firstNumber (seatFaults sheet f) ⌝ }
+{
+    if !sheet {
+        return 8;
+    }
+    if seat::bad_ends(f) {
+        return 2;
+    }
+    0
+}
+
+// A seat entry, behind 9.
+fn judge_seat(standing: Standing, f: Seat) -> Judged
+    ensures { λ r. ⌜ ((k : ℕ) → Sound k standing → Says (firstNumber (seatFaults (plainly standing .sheet) f)) (plainly standing) (k + 1) r) ⌝ }
+{
+    let n = seat_number(standing.sheet, f);
+    if n != 0 {
+        return Judged::Refused(n);
+    }
+    Judged::Accepted(standing)
 }
 
 // An entry, where `count` entries stand.
@@ -82,19 +125,21 @@ pub fn judge(count: usize, standing: Standing, e: Entry) -> Judged
         return Judged::Refused(9);
     }
     match e {
-        Entry::Weighing(w) => judge_weighing(w),
+        Entry::Weighing(w) => judge_weighing(standing.sheet, w),
         Entry::Sheet(s) => judge_sheet(standing, s),
         Entry::Change(x) => judge_change(standing, x),
-        Entry::Paired(x) => judge_paired(x),
+        Entry::Paired(x) => judge_paired(standing.sheet, x),
+        Entry::Seat(f) => judge_seat(standing, f),
     }
 }
 
 // The number of a change, behind 9.
 fn change_number(standing: Standing, x: Change) -> u64
     requires { ⌜ Sound 1024 standing ⌝ }
-    ensures { λ n. ⌜ n ≡ firstNumber (changeFaults (plainly standing) x) ⌝ }
+    ensures { λ n. ⌜ n ≡ firstNumber (changeFaults (plainly standing .balance) x) ⌝ }
 {
-    let Standing::Weighed(b) = standing else {
+    let last = standing.weighed;
+    let Weighed::Balance(b) = last else {
         return 7;
     };
     change::number(b, x)
@@ -113,5 +158,6 @@ pub fn number(count: usize, standing: Standing, e: Entry) -> u64
         Entry::Sheet(s) => sheet::number(s),
         Entry::Change(x) => change_number(standing, x),
         Entry::Paired(x) => weighing::paired_number(x),
+        Entry::Seat(f) => seat_number(standing.sheet, f),
     }
 }

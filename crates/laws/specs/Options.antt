@@ -26,6 +26,10 @@ pub cond-kept : {A : Type 0} (t : Bool) (o : Option A) (x : A) → cond t o none
 cond-kept true o x e = e
 cond-kept false o x e = cc
 
+pub cond-other : {A : Type 0} (t : Bool) (o : Option A) (x : A) → cond t none o ≡ some x → o ≡ some x
+cond-other true o x e = cc
+cond-other false o x e = e
+
 pub cond-found : {A : Type 0} (t : Bool) (x y : A) → cond t (some x) none ≡ some y → x ≡ y
 cond-found t x y e = Option·some-injective x y (cond-kept t (some x) y e)
 

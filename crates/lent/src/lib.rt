@@ -38,15 +38,14 @@ fn append(buffer: &mut [u8], end: usize, count: usize, e: Entry) -> u64
     0
 }
 
-// A weighing, plain or paired, a data sheet or a change.
+// A weighing, plain or paired, a data sheet, a change or a seat entry.
 pub fn add(buffer: &mut [u8], e: Entry) -> u64
     ensures { λ n. ⌜ (n, now (buffer .exit)) ≡ lentCall (callOf e) (now (buffer .entry)) ⌝ }
 {
     let Stored::File(found) = front::held(buffer) else {
         return 12;
     };
-    let standing = found.standing;
-    let number = judge::number(found.count, standing, e);
+    let number = judge::number(found.count, found.standing, e);
     if number != 0 {
         return number;
     }

@@ -3,25 +3,28 @@
 use aboard::Arms;
 use aboard::Laden;
 use laws::Sides;
+use paper::Seat;
 use paper::Sheet;
 use paper::Weight;
 use solver::Span;
 ghost use mathlib.Core.Path.{_≡_};
-ghost use mathlib.Core.Bool.{_&&_, _||_, true};
+ghost use mathlib.Core.Bool.{_&&_, _||_, true, false};
 ghost use Prim.Native.Nat.{ℕ, _+_, _*_};
 ghost use lib.Dec.{leb, eqb};
 ghost use lib.IntN.{pos, _+ℤ_};
 ghost use Rattle.paper.specs.Units.{halfGrams};
 ghost use Rattle.paper.specs.Record.{Balance};
-ghost use Rattle.paper.specs.Refusals.{firstNumber, sheetFaults};
+ghost use Rattle.paper.specs.Refusals.{firstNumber, sheetFaults, badEnds};
 ghost use Rattle.aboard.specs.Aboard.{ArmsOf, Beside, Room};
 ghost use Rattle.solver.specs.Span.{within};
-ghost use Rattle.limits.specs.Seats.{forwardMargin, safeMargin, inSeat, SeatOf, Seated, NoneOf, AllOf};
+ghost use Rattle.limits.specs.Seats.{forwardMargin, safeMargin, inSeat, FrontOf, Seated, NoneOf, AllOf};
 
-// The front seat: the numbers of steps that there are, and what a step weighs and turns.
-pub struct Seat {
+// The front seat: its two ends, the numbers of steps that there are, and what a step weighs and turns at each end.
+pub struct Front {
+    pub seat: Seat,
     pub steps: Span,
-    pub step: Laden,
+    pub lower: Laden,
+    pub higher: Laden,
 }
 
 // The margin to FWD: the moment less the one that FWD has at that weight.
@@ -66,14 +69,16 @@ fn steps(s: Sheet) -> Span
     )
 }
 
-// The front seat of an accepted sheet.
-pub fn seat_of(s: Sheet, a: Arms) -> Seat
-    requires { ⌜ (firstNumber (sheetFaults s) ≡ 0) × ArmsOf s a ⌝ }
-    ensures { λ q. ⌜ SeatOf s q ⌝ }
+// The front seat of an accepted sheet, between the ends of an accepted seat.
+pub fn front_of(s: Sheet, f: Seat, a: Arms) -> Front
+    requires { ⌜ (firstNumber (sheetFaults s) ≡ 0) × (badEnds f ≡ false) × ArmsOf s a ⌝ }
+    ensures { λ q. ⌜ (q .seat ≡ f) × FrontOf s q ⌝ }
 {
-    Seat {
+    Front {
+        seat: f,
         steps: steps(s),
-        step: aboard::grams_at(s.front.step, a.front, a),
+        lower: aboard::grams_at(s.front.step, laws::split(f.lower), a),
+        higher: aboard::grams_at(s.front.step, laws::split(f.higher), a),
     }
 }
 
@@ -101,28 +106,29 @@ fn non_lifting_limit(span: Span, weight: u64, each: u64, most: u64) -> Span
     weight_limit(span, weight, each, most)
 }
 
-// The numbers of steps that keep every limit with none of the water aboard.
-pub fn with_none(s: Sheet, q: Seat, x: Laden, nonlifting: u64) -> Span
-    requires { ⌜ (firstNumber (sheetFaults s) ≡ 0) × SeatOf s q × Room 256 x ⌝ }
-    ensures { λ r. ⌜ Seated s r × ((b : Balance) (rear : ℕ) → Beside s b rear 0 x → pos nonlifting ≡ b .nonLifting +ℤ halfGrams (pos rear) → NoneOf s b rear r) ⌝ }
+// The numbers of steps that keep every limit with none of the water aboard. A load at the lower end is the worst for FWD, one at
+// the higher end for the safe aft limit.
+pub fn with_none(s: Sheet, q: Front, x: Laden, nonlifting: u64) -> Span
+    requires { ⌜ (firstNumber (sheetFaults s) ≡ 0) × FrontOf s q × Room 256 x ⌝ }
+    ensures { λ r. ⌜ Seated s r × ((b : Balance) (rear : ℕ) → Beside s b rear 0 x → pos nonlifting ≡ b .nonLifting +ℤ halfGrams (pos rear) → NoneOf s (q .seat) b rear r) ⌝ }
 {
-    let each = q.step.weight;
+    let each = q.lower.weight;
     let span = weight_limit(q.steps, x.weight, each, Weight::HALVES * s.dry);
     let span = weight_limit(span, x.weight, each, Weight::HALVES * s.wet);
     let span = non_lifting_limit(span, nonlifting, each, Weight::HALVES * s.nlp);
-    let span = solver::narrow(span, forward_margin(x), forward_margin(q.step));
-    solver::narrow(span, safe_margin(x), safe_margin(q.step))
+    let span = solver::narrow(span, forward_margin(x), forward_margin(q.lower));
+    solver::narrow(span, safe_margin(x), safe_margin(q.higher))
 }
 
 // Those of them that keep every limit with all of the water aboard, and so with every part: water works against FWD where it
 // lies ahead of it, and else only against the safe aft limit.
-pub fn with_all(s: Sheet, q: Seat, span: Span, x: Laden) -> Span
-    requires { ⌜ (firstNumber (sheetFaults s) ≡ 0) × SeatOf s q × Room 256 x ⌝ }
-    ensures { λ r. ⌜ ((k : ℕ) → within r k ≡ true → within span k ≡ true) × ((b : Balance) (rear w : ℕ) → Beside s b rear w x → NoneOf s b rear span → AllOf s b rear w r) ⌝ }
+pub fn with_all(s: Sheet, q: Front, span: Span, x: Laden) -> Span
+    requires { ⌜ (firstNumber (sheetFaults s) ≡ 0) × FrontOf s q × Room 256 x ⌝ }
+    ensures { λ r. ⌜ ((k : ℕ) → within r k ≡ true → within span k ≡ true) × ((b : Balance) (rear w : ℕ) → Beside s b rear w x → NoneOf s (q .seat) b rear span → AllOf s (q .seat) b rear w r) ⌝ }
 {
-    let span = weight_limit(span, x.weight, q.step.weight, Weight::HALVES * s.wet);
+    let span = weight_limit(span, x.weight, q.lower.weight, Weight::HALVES * s.wet);
     if s.water.arm < s.fwd {
-        return solver::narrow(span, forward_margin(x), forward_margin(q.step));
+        return solver::narrow(span, forward_margin(x), forward_margin(q.lower));
     }
-    solver::narrow(span, safe_margin(x), safe_margin(q.step))
+    solver::narrow(span, safe_margin(x), safe_margin(q.higher))
 }

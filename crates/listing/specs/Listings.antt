@@ -46,6 +46,7 @@ remark c (entry.Weighing w) = comment c
 remark c (entry.Sheet s) = []
 remark c (entry.Change x) = comment c
 remark c (entry.Paired x) = comment c
+remark c (entry.Seat f) = []
 
 -- the lines of such an entry
 unfoldable pub linesOf : CentreOfGravity → Entry → List ℕ

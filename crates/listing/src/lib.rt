@@ -1,6 +1,7 @@
 // The listing of a record: its entries as lines of a logbook, with what each weighing and change comes to as a comment.
 use judge::Judged;
 use judge::Standing;
+use judge::Weighed;
 use paper::CAPACITY;
 use paper::CentreOfGravity;
 use paper::Entry;
@@ -67,6 +68,7 @@ fn put_remark(out: &mut [u8], at: usize, c: CentreOfGravity, e: Entry) -> usize
 {
     match e {
         Entry::Sheet(_) => at,
+        Entry::Seat(_) => at,
         _ => put_comment(out, at, c),
     }
 }
@@ -86,7 +88,10 @@ fn put_listing(out: &mut [u8], r: Record) -> usize
     requires { ⌜ 27520 ≤ length (now out) ⌝ }
     ensures { λ n. ⌜ (n ≡ length (listing (heldBy r))) × (now (out .exit) ≡ written (now (out .entry)) 0 (listing (heldBy r))) ⌝ }
 {
-    let mut standing = Standing::Unweighed;
+    let mut standing = Standing {
+        weighed: Weighed::Never,
+        sheet: false,
+    };
     let mut n = 0;
     let mut at = 0;
     let mut i = 0;

@@ -2,6 +2,7 @@
 // Each function answers by the paper's number of refusal, 0 where there is none; include/nodhulika.h is its header.
 use arguments::change_of;
 use arguments::paired_of;
+use arguments::seat_of;
 use arguments::sheet_of;
 use arguments::weighing_of;
 use words::long_of;
@@ -117,6 +118,14 @@ pub extern "C" fn nodhulika_change(buffer: &mut [u8], c: i64, arm: i64, flag: u6
     ensures { λ r. ⌜ (r, now (buffer .exit)) ≡ lentCall (journal.change (record { c = c; arm = arm; flag = flag })) (now (buffer .entry)) ⌝ }
 {
     lent::add(buffer, change_of(c, arm, flag))
+}
+
+// A seat entry.
+#[no_mangle]
+pub extern "C" fn nodhulika_seat(buffer: &mut [u8], lower: i64, higher: i64) -> u64
+    ensures { λ r. ⌜ (r, now (buffer .exit)) ≡ lentCall (journal.seat (record { lower = lower; higher = higher })) (now (buffer .entry)) ⌝ }
+{
+    lent::add(buffer, seat_of(lower, higher))
 }
 
 // Taking back.

@@ -1,5 +1,5 @@
 -- "The journal": a list of entries kept from the calls' arguments alone, and the number that each call gets by it.
-use mathlib.Core.Bool.{Bool, cond, not}
+use mathlib.Core.Bool.{cond}
 use mathlib.Core.List.{List, [], _∷_, _++_}
 use mathlib.Core.Option.{Option, none, some}
 use Prim.Native.Nat.{ℕ}
@@ -11,7 +11,7 @@ use Rattle.paper.specs.declared.Change.{Change}
 use Rattle.paper.specs.declared.Seat.{Seat}
 use Rattle.paper.specs.declared.Entry.{Entry}
 use Rattle.paper.specs.declared.Entry.the-variants as entry
-use Rattle.paper.specs.Record.{alike, paired, lastWeighing, sheetOf, isNone}
+use Rattle.paper.specs.Record.{alike, paired}
 use Rattle.paper.specs.Refusals.{weighingNumber, sheetNumber, changeNumber, seatNumber, undoNumber, readingNumber, fileOf}
 
 -- a call that can change the record, with its arguments: the bytes of a file are reading back's
@@ -51,13 +51,6 @@ withoutLast (x ∷ y ∷ xs) = x ∷ withoutLast (y ∷ xs)
 abbrev pub entriesOr : List Entry → Option (List Entry) → List Entry
 entriesOr es none = es
 entriesOr es (some fs) = fs
-
--- a weighing, or a sheet, stands when the journal has one
-unfoldable pub weighingStands : List Entry → Bool
-weighingStands es = not (isNone (lastWeighing es))
-
-unfoldable pub sheetStands : List Entry → Bool
-sheetStands es = not (isNone (sheetOf es))
 
 -- the journal after an accepted call: the entry at its end, or without its last, or the file's entries in its place
 unfoldable pub acceptedCall : List Entry → Call → List Entry

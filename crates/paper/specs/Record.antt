@@ -1,6 +1,6 @@
 -- "The record": what a list of entries says. G, M and n, the empty centre of gravity, the sheet in force and the seat in force,
 -- all of the list alone, its first entry first.
-use mathlib.Core.Bool.{Bool, true, false, cond}
+use mathlib.Core.Bool.{Bool, true, false, cond, not}
 use mathlib.Core.List.{List, [], _∷_}
 use mathlib.Core.Option.{Option, none, some, Option·map, orElse}
 use Prim.Native.Nat.{ℕ, _*_}
@@ -134,6 +134,13 @@ unfoldable pub isNone : {A : Type 0} → Option A → Bool
 isNone none = true
 isNone (some x) = false
 
+-- a weighing, or a sheet, stands when the list has one
+unfoldable pub weighingStands : List Entry → Bool
+weighingStands es = not (isNone (lastWeighing es))
+
+unfoldable pub sheetStands : List Entry → Bool
+sheetStands es = not (isNone (sheetOf es))
+
 -- a seat entry
 abbrev pub asSeat : Entry → Option Seat
 asSeat (entry.Weighing w) = none
@@ -145,7 +152,7 @@ asSeat (entry.Seat f) = some f
 -- the seat in force (paper 02, card 4): the last seat entry of the list, unless a sheet stands behind it
 unfoldable pub seatOf : List Entry → Option Seat
 seatOf [] = none
-seatOf (e ∷ es) = orElse (seatOf es) (cond (isNone (sheetOf es)) (asSeat e) none)
+seatOf (e ∷ es) = orElse (seatOf es) (cond (sheetStands es) none (asSeat e))
 
 -- the two ends that the arm of a front load lies between: those of the seat in force, which override the sheet's front arm, or
 -- that arm twice where there is none

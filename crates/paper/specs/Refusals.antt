@@ -15,7 +15,7 @@ use Rattle.paper.specs.declared.Seat.{Seat}
 use Rattle.paper.specs.declared.Entry.{Entry}
 use Rattle.paper.specs.declared.Entry.the-variants as entry
 use Rattle.paper.specs.Units.{between, isWeight, isArm, halfGrams}
-use Rattle.paper.specs.Record.{Balance, Readings, alike, paired, totalOf, changed, balanceOf, sheetOf, isNone}
+use Rattle.paper.specs.Record.{Balance, Readings, alike, paired, totalOf, changed, balanceOf, sheetOf, isNone, sheetStands}
 use Rattle.paper.specs.Rows.{rowCount}
 use Rattle.paper.specs.Placard.{textLength}
 use Rattle.paper.specs.File.{fileBytes, laidOut}
@@ -132,12 +132,12 @@ changeNumber es x = firstNumber (9 when full es ∷ changeFaults (balanceOf es) 
 unfoldable pub badEnds : Seat → Bool
 badEnds f = not (isArm (f .lower) && isArm (f .higher) && leZ (f .lower) (f .higher))
 
--- what is asked of a seat entry where o is the sheet in force, none of it before a sheet, in its order behind 9
-unfoldable pub seatFaults : Option Sheet → Seat → List (ℕ × Bool)
-seatFaults o f = 8 when isNone o ∷ 2 when badEnds f ∷ []
+-- what is asked of a seat entry, where `sheet` tells whether a sheet stands before it, in its order behind 9
+unfoldable pub seatFaults : Bool → Seat → List (ℕ × Bool)
+seatFaults sheet f = 8 when not sheet ∷ 2 when badEnds f ∷ []
 
 unfoldable pub seatNumber : List Entry → Seat → ℕ
-seatNumber es f = firstNumber (9 when full es ∷ seatFaults (sheetOf es) f)
+seatNumber es f = firstNumber (9 when full es ∷ seatFaults (sheetStands es) f)
 
 -- ---- the calls that take no entry
 

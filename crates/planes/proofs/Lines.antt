@@ -1,22 +1,20 @@
--- Each of the paper's lines of limits is an order of two naturals that grow evenly with front load and water: the integers
--- of a line are taken apart into their two sides. So the lines of every sheet and every balance are half-planes. Loads are
--- whole grams and a balance is in half grams, so that each gram of load counts twice. Assumes nothing.
-use mathlib.Core.Path.{_≡_, sym, _∙_}
-use mathlib.Core.Bool.{Bool, true, false, cond, _&&_, _||_}
-use mathlib.Core.List.{List, [], _∷_}
+-- Each of the paper's lines of limits, with the front load at some arm, is an order of two naturals that grow evenly with front
+-- load and water: the integers of a line are taken apart into their two sides. Loads are whole grams and a balance is in half
+-- grams, so that each gram of load counts twice. Assumes nothing.
+use mathlib.Core.Path.{_≡_}
+use mathlib.Core.Bool.{Bool, true, _||_}
 use Prim.Native.Nat.{ℕ, _+_, _*_}
 use native.Mathlib.Omega.{arith}
 use lib.Dec.{leb, eqb}
 use lib.IntN.{ℤ, pos, _+ℤ_, _*ℤ_}
 use lib.Signed.{leZ}
-use borrow.Author.Tests.{le-leb}
 use Rattle.laws.specs.declared.Sides.{Sides}
+use Rattle.laws.specs.Tests.{left, right}
 use Rattle.laws.specs.Z.{Is, up, dn, is-nat, is-int, is-add, is-mul, same, leZ-test}
 use Rattle.paper.specs.declared.Sheet.{Sheet}
 use Rattle.paper.specs.Units.{halfGrams}
 use Rattle.paper.specs.Record.{Balance, with}
 use Rattle.paper.specs.Rows.{laden, totalBeside, momentBeside, atMost, lines, all, keepsAt}
-use Rattle.planes.specs.Plane.{HalfPlane, holds, allHold, Says}
 
 -- the integers that the lines are made of, each by two sides
 pub record Parts : Type 0 where
@@ -29,43 +27,43 @@ pub record Parts : Type 0 where
   pub rear : Sides
   pub water : Sides
 
--- they are those of a sheet and a balance
-pub record PartsOf (s : Sheet) (b : Balance) (q : Parts) : Type 0 where
+-- they are those of a sheet, a front arm and a balance
+pub record PartsOf (s : Sheet) (arm : ℤ) (b : Balance) (q : Parts) : Type 0 where
   pub total : Is (b .total) (q .total .up) (q .total .down)
   pub moment : Is (b .moment) (q .moment .up) (q .moment .down)
   pub nonLifting : Is (b .nonLifting) (q .nonLifting .up) (q .nonLifting .down)
   pub fwd : Is (s .fwd) (q .fwd .up) (q .fwd .down)
   pub aft : Is (s .aft) (q .aft .up) (q .aft .down)
-  pub front : Is (s .front .arm) (q .front .up) (q .front .down)
+  pub front : Is arm (q .front .up) (q .front .down)
   pub rear : Is (s .rear .arm) (q .rear .up) (q .rear .down)
   pub water : Is (s .water .arm) (q .water .up) (q .water .down)
 
--- the sides of the integers of a sheet and a balance
+-- the sides of those integers
 abbrev pub sides : ℤ → Sides
 sides z = record { up = up z; down = dn z }
 
-abbrev pub partsOf : Sheet → Balance → Parts
-partsOf s b =
+abbrev pub partsOf : Sheet → ℤ → Balance → Parts
+partsOf s arm b =
     record {
       total = sides (b .total);
       moment = sides (b .moment);
       nonLifting = sides (b .nonLifting);
       fwd = sides (s .fwd);
       aft = sides (s .aft);
-      front = sides (s .front .arm);
+      front = sides arm;
       rear = sides (s .rear .arm);
       water = sides (s .water .arm);
     }
 
-pub parts-of : (s : Sheet) (b : Balance) → PartsOf s b (partsOf s b)
-parts-of s b =
+pub parts-of : (s : Sheet) (arm : ℤ) (b : Balance) → PartsOf s arm b (partsOf s arm b)
+parts-of s arm b =
     record {
       total = is-int (b .total);
       moment = is-int (b .moment);
       nonLifting = is-int (b .nonLifting);
       fwd = is-int (s .fwd);
       aft = is-int (s .aft);
-      front = is-int (s .front .arm);
+      front = is-int arm;
       rear = is-int (s .rear .arm);
       water = is-int (s .water .arm);
     }
@@ -113,20 +111,20 @@ half-is n = let t = is-mul (is-nat 2) (is-nat n) in record { is = omega (arith, 
 pub turned-is : (n : ℕ) {arm : ℤ} {u d : ℕ} → Is arm u d → Is (halfGrams (pos n) *ℤ arm) (2 * (n * u)) (2 * (n * d))
 turned-is n h = let t = is-mul (half-is n) h in record { is = omega (arith, t .is) }
 
-module _ (s : Sheet) (b : Balance) (q : Parts) (o : PartsOf s b q) (r p v : ℕ) where
-  total-is : Is (laden s b r p v .total) (halves q r p v) (q .total .down)
+module _ (s : Sheet) (arm : ℤ) (b : Balance) (q : Parts) (o : PartsOf s arm b q) (r p v : ℕ) where
+  total-is : Is (laden s arm b r p v .total) (halves q r p v) (q .total .down)
   unfolding laden with
   total-is =
       let t = is-add (is-add (is-add (o .total) (half-is p)) (half-is r)) (half-is v) in record { is = omega (arith, t .is) }
 
-  moment-is : Is (laden s b r p v .moment) (aftward q r p v) (forward q r p v)
+  moment-is : Is (laden s arm b r p v .moment) (aftward q r p v) (forward q r p v)
   unfolding laden with
   moment-is =
       let t =
       is-add (is-add (is-add (o .moment) (turned-is p (o .front))) (turned-is r (o .rear))) (turned-is v (o .water)) in
       record { is = omega (arith, t .is) }
 
-  part-is : Is (laden s b r p v .nonLifting) (q .nonLifting .up + 2 * (p + r)) (q .nonLifting .down)
+  part-is : Is (laden s arm b r p v .nonLifting) (q .nonLifting .up + 2 * (p + r)) (q .nonLifting .down)
   unfolding laden with
   part-is =
       let t = is-add (is-add (is-add (o .nonLifting) (half-is p)) (half-is r)) (is-nat 0) in
@@ -134,26 +132,26 @@ module _ (s : Sheet) (b : Balance) (q : Parts) (o : PartsOf s b q) (r p v : ℕ)
 
 -- ---- T, S and the non-lifting weight with all loads aboard, as the paper has them, in half grams
 
-module _ (s : Sheet) (b : Balance) (r p v : ℕ) where
+module _ (s : Sheet) (arm : ℤ) (b : Balance) (r p v : ℕ) where
   -- T = G + 2·(P + r + v)
-  pub laden-total : laden s b r p v .total ≡ b .total +ℤ pos 2 *ℤ (pos p +ℤ pos r +ℤ pos v)
+  pub laden-total : laden s arm b r p v .total ≡ b .total +ℤ pos 2 *ℤ (pos p +ℤ pos r +ℤ pos v)
   laden-total =
-      same (total-is s b (partsOf s b) (parts-of s b) r p v)
+      same (total-is s arm b (partsOf s arm b) (parts-of s arm b) r p v)
       (is-add (is-int (b .total)) (is-mul (is-nat 2) (is-add (is-add (is-nat p) (is-nat r)) (is-nat v)))) (omega arith)
 
   -- S = M + 2·(P·front arm + r·rear arm + v·water arm)
-  pub laden-moment : laden s b r p v .moment ≡ b .moment +ℤ pos 2 *ℤ (pos p *ℤ s .front .arm +ℤ pos r *ℤ s .rear .arm +ℤ pos v *ℤ s .water .arm)
+  pub laden-moment : laden s arm b r p v .moment ≡ b .moment +ℤ pos 2 *ℤ (pos p *ℤ arm +ℤ pos r *ℤ s .rear .arm +ℤ pos v *ℤ s .water .arm)
   laden-moment =
-      let front = is-mul (is-nat p) (is-int (s .front .arm)) in
+      let front = is-mul (is-nat p) (is-int arm) in
       let rear = is-mul (is-nat r) (is-int (s .rear .arm)) in
       let water = is-mul (is-nat v) (is-int (s .water .arm)) in
-      same (moment-is s b (partsOf s b) (parts-of s b) r p v)
+      same (moment-is s arm b (partsOf s arm b) (parts-of s arm b) r p v)
       (is-add (is-int (b .moment)) (is-mul (is-nat 2) (is-add (is-add front rear) water))) (omega arith)
 
   -- n + 2·(P + r): water never counts
-  pub laden-part : laden s b r p v .nonLifting ≡ b .nonLifting +ℤ pos 2 *ℤ (pos p +ℤ pos r)
+  pub laden-part : laden s arm b r p v .nonLifting ≡ b .nonLifting +ℤ pos 2 *ℤ (pos p +ℤ pos r)
   laden-part =
-      same (part-is s b (partsOf s b) (parts-of s b) r p v)
+      same (part-is s arm b (partsOf s arm b) (parts-of s arm b) r p v)
       (is-add (is-int (b .nonLifting)) (is-mul (is-nat 2) (is-add (is-nat p) (is-nat r)))) (omega arith)
 
 -- ---- the same as the front load on top of what is aboard beside it
@@ -169,20 +167,20 @@ beside-moment s b r v =
     is-add (is-add (is-int (b .moment)) (turned-is r (is-int (s .rear .arm)))) (turned-is v (is-int (s .water .arm))) in
     record { is = omega (arith, t .is) }
 
-module _ (s : Sheet) (b : Balance) (r p v : ℕ) where
-  pub laden-on-total : laden s b r p v .total ≡ totalBeside b r v +ℤ halfGrams (pos p)
+module _ (s : Sheet) (arm : ℤ) (b : Balance) (r p v : ℕ) where
+  pub laden-on-total : laden s arm b r p v .total ≡ totalBeside b r v +ℤ halfGrams (pos p)
   laden-on-total =
-      same (total-is s b (partsOf s b) (parts-of s b) r p v) (is-add (beside-total b r v) (half-is p)) (omega arith)
+      same (total-is s arm b (partsOf s arm b) (parts-of s arm b) r p v) (is-add (beside-total b r v) (half-is p)) (omega arith)
 
-  pub laden-on-part : laden s b r p v .nonLifting ≡ b .nonLifting +ℤ halfGrams (pos r) +ℤ halfGrams (pos p)
+  pub laden-on-part : laden s arm b r p v .nonLifting ≡ b .nonLifting +ℤ halfGrams (pos r) +ℤ halfGrams (pos p)
   laden-on-part =
-      same (part-is s b (partsOf s b) (parts-of s b) r p v)
+      same (part-is s arm b (partsOf s arm b) (parts-of s arm b) r p v)
       (is-add (is-add (is-int (b .nonLifting)) (half-is r)) (half-is p)) (omega arith)
 
-  pub laden-on-moment : laden s b r p v .moment ≡ momentBeside s b r v +ℤ halfGrams (pos p) *ℤ s .front .arm
+  pub laden-on-moment : laden s arm b r p v .moment ≡ momentBeside s b r v +ℤ halfGrams (pos p) *ℤ arm
   laden-on-moment =
-      same (moment-is s b (partsOf s b) (parts-of s b) r p v)
-      (is-add (beside-moment s b r v) (turned-is p (is-int (s .front .arm)))) (omega arith)
+      same (moment-is s arm b (partsOf s arm b) (parts-of s arm b) r p v)
+      (is-add (beside-moment s b r v) (turned-is p (is-int arm))) (omega arith)
 
 -- so much more water
 pub beside-more-total : (b : Balance) (r w v : ℕ) → totalBeside b r (w + v) ≡ totalBeside b r w +ℤ halfGrams (pos v)
@@ -198,126 +196,63 @@ pub at-most : {z : ℤ} {u d : ℕ} → Is z u d → (most : ℕ) → atMost mos
 unfolding atMost
 at-most {u = u} {d} h most = leZ-test h (half-is most) u (2 * most + d) (omega arith)
 
-module _ (s : Sheet) (b : Balance) (q : Parts) (o : PartsOf s b q) (r p v : ℕ) where
-  pub weight-line : (most : ℕ) → atMost most (laden s b r p v .total) ≡ leb (halves q r p v) (2 * most + q .total .down)
-  weight-line most = at-most (total-is s b q o r p v) most
+module _ (s : Sheet) (arm : ℤ) (b : Balance) (q : Parts) (o : PartsOf s arm b q) (r p v : ℕ) where
+  pub weight-line : (most : ℕ) → atMost most (laden s arm b r p v .total) ≡ leb (halves q r p v) (2 * most + q .total .down)
+  weight-line most = at-most (total-is s arm b q o r p v) most
 
-  pub part-line : (most : ℕ) → atMost most (laden s b r p v .nonLifting) ≡ leb (q .nonLifting .up + 2 * (p + r)) (2 * most + q .nonLifting .down)
-  part-line most = at-most (part-is s b q o r p v) most
+  pub part-line : (most : ℕ) → atMost most (laden s arm b r p v .nonLifting) ≡ leb (q .nonLifting .up + 2 * (p + r)) (2 * most + q .nonLifting .down)
+  part-line most = at-most (part-is s arm b q o r p v) most
 
-  pub fwd-line : leZ (s .fwd *ℤ laden s b r p v .total) (laden s b r p v .moment) ≡ leb (fwdLow q r p v) (fwdHigh q r p v)
-  fwd-line = leZ-test (is-mul (o .fwd) (total-is s b q o r p v)) (moment-is s b q o r p v) (fwdLow q r p v) (fwdHigh q r p v) (omega arith)
+  pub fwd-line : leZ (s .fwd *ℤ laden s arm b r p v .total) (laden s arm b r p v .moment) ≡ leb (fwdLow q r p v) (fwdHigh q r p v)
+  fwd-line = leZ-test (is-mul (o .fwd) (total-is s arm b q o r p v)) (moment-is s arm b q o r p v) (fwdLow q r p v) (fwdHigh q r p v) (omega arith)
 
-  pub aft-line : leZ (pos 20 *ℤ laden s b r p v .moment) ((pos 19 *ℤ s .aft +ℤ s .fwd) *ℤ laden s b r p v .total) ≡ leb (aftLow q r p v) (aftHigh q r p v)
+  pub aft-line : leZ (pos 20 *ℤ laden s arm b r p v .moment) ((pos 19 *ℤ s .aft +ℤ s .fwd) *ℤ laden s arm b r p v .total) ≡ leb (aftLow q r p v) (aftHigh q r p v)
   aft-line =
-      leZ-test (is-mul (is-nat 20) (moment-is s b q o r p v)) (is-mul (is-add (is-mul (is-nat 19) (o .aft)) (o .fwd)) (total-is s b q o r p v)) (aftLow q r p v) (aftHigh q r p v) (omega arith)
+      leZ-test (is-mul (is-nat 20) (moment-is s arm b q o r p v)) (is-mul (is-add (is-mul (is-nat 19) (o .aft)) (o .fwd)) (total-is s arm b q o r p v)) (aftLow q r p v) (aftHigh q r p v) (omega arith)
 
--- six tests that are the six lines' are what it is to keep the limits
-pub keeps-tests : (s : Sheet) (b : Balance) (q : Parts) → PartsOf s b q → (r p v : ℕ) (occupied dry wet nlp fwd aft : Bool)
-    → leb 1 p ≡ occupied
-    → leb (halves q r p 0) (2 * s .dry + q .total .down) ≡ dry
-    → leb (halves q r p v) (2 * s .wet + q .total .down) ≡ wet
-    → (eqb (s .nlp) 0 || leb (q .nonLifting .up + 2 * (p + r)) (2 * s .nlp + q .nonLifting .down)) ≡ nlp
-    → leb (fwdLow q r p v) (fwdHigh q r p v) ≡ fwd
-    → leb (aftLow q r p v) (aftHigh q r p v) ≡ aft
-    → keepsAt s b r p v ≡ (occupied && (dry && (wet && (nlp && (fwd && (aft && true))))))
+-- ---- the lines by their names, of a load at an arm
+
+module _ (s : Sheet) (arm : ℤ) (b : Balance) (r p v : ℕ) where
+  abbrev pub dryLine : Bool
+  dryLine = atMost (s .dry) (laden s arm b r p 0 .total)
+
+  abbrev pub wetLine : Bool
+  wetLine = atMost (s .wet) (laden s arm b r p v .total)
+
+  abbrev pub nlpLine : Bool
+  nlpLine = eqb (s .nlp) 0 || atMost (s .nlp) (laden s arm b r p v .nonLifting)
+
+  abbrev pub fwdLine : Bool
+  fwdLine = leZ (s .fwd *ℤ laden s arm b r p v .total) (laden s arm b r p v .moment)
+
+  abbrev pub aftLine : Bool
+  aftLine = leZ (pos 20 *ℤ laden s arm b r p v .moment) ((pos 19 *ℤ s .aft +ℤ s .fwd) *ℤ laden s arm b r p v .total)
+
+-- every line holds
+pub record Hold (s : Sheet) (arm : ℤ) (b : Balance) (r p v : ℕ) : Type 0 where
+  pub seat : leb 1 p ≡ true
+  pub dry : dryLine s arm b r p v ≡ true
+  pub wet : wetLine s arm b r p v ≡ true
+  pub nlp : nlpLine s arm b r p v ≡ true
+  pub fwd : fwdLine s arm b r p v ≡ true
+  pub aft : aftLine s arm b r p v ≡ true
+
+pub lines-hold : (s : Sheet) (arm : ℤ) (b : Balance) (r p v : ℕ) → keepsAt s arm b r p v ≡ true → Hold s arm b r p v
 unfolding keepsAt lines all
-keeps-tests s b q o r p v occupied dry wet nlp fwd aft o₁ d w n f a =
-    rw (
-      o₁,
-      weight-line s b q o r p 0 (s .dry) ∙ d,
-      weight-line s b q o r p v (s .wet) ∙ w,
-      part-line s b q o r p v (s .nlp),
-      n,
-      fwd-line s b q o r p v ∙ f,
-      aft-line s b q o r p v ∙ a,
-    )
-
--- ---- every line as a half-plane: first of loads in half grams, as the balance is
-
--- no limit
-abbrev pub noLimit : HalfPlane
-noLimit = record { alpha0 = 0; alpha1 = 0; beta = 0; gamma0 = 0; gamma1 = 0; delta = 0 }
-
--- a weight with the front load, and with the water as often as `wet` says, is at most another
-abbrev pub weightPlane : ℕ → ℕ → ℕ → HalfPlane
-weightPlane wet weight most = record { alpha0 = most; alpha1 = 0; beta = 0; gamma0 = weight; gamma1 = wet; delta = 1 }
-
-abbrev pub fwdPlane : Parts → ℕ → HalfPlane
-fwdPlane q r =
+lines-hold s arm b r p v e =
+    let e₁ = right (leb 1 p) _ e in
+    let e₂ = right (dryLine s arm b r p v) _ e₁ in
+    let e₃ = right (wetLine s arm b r p v) _ e₂ in
+    let e₄ = right (nlpLine s arm b r p v) _ e₃ in
     record {
-      alpha0 = fwdHigh q r 0 0;
-      alpha1 = q .water .up + q .fwd .down;
-      beta = q .front .up + q .fwd .down;
-      gamma0 = fwdLow q r 0 0;
-      gamma1 = q .water .down + q .fwd .up;
-      delta = q .front .down + q .fwd .up;
+      seat = left (leb 1 p) _ e;
+      dry = left (dryLine s arm b r p v) _ e₁;
+      wet = left (wetLine s arm b r p v) _ e₂;
+      nlp = left (nlpLine s arm b r p v) _ e₃;
+      fwd = left (fwdLine s arm b r p v) _ e₄;
+      aft = left (aftLine s arm b r p v) true (right (fwdLine s arm b r p v) _ e₄);
     }
 
-abbrev pub aftPlane : Parts → ℕ → HalfPlane
-aftPlane q r =
-    record {
-      alpha0 = aftHigh q r 0 0;
-      alpha1 = 20 * q .water .down + safeUp q;
-      beta = 20 * q .front .down + safeUp q;
-      gamma0 = aftLow q r 0 0;
-      gamma1 = 20 * q .water .up + safeDown q;
-      delta = 20 * q .front .up + safeDown q;
-    }
-
--- ---- the half-planes of loads in grams
-
--- somebody is in the front seat: the load is one gram or more, whatever the water
-abbrev pub occupiedPlane : HalfPlane
-occupiedPlane = record { alpha0 = 0; alpha1 = 0; beta = 1; gamma0 = 1; gamma1 = 0; delta = 0 }
-
--- each gram counts as two halves
-abbrev pub inGrams : HalfPlane → HalfPlane
-inGrams l =
-    record {
-      alpha0 = l .alpha0;
-      alpha1 = 2 * l .alpha1;
-      beta = 2 * l .beta;
-      gamma0 = l .gamma0;
-      gamma1 = 2 * l .gamma1;
-      delta = 2 * l .delta;
-    }
-
--- the lines of limits with rear load r
-unfoldable pub planesOf : Sheet → Balance → ℕ → List HalfPlane
-planesOf s b r =
-    let q = partsOf s b in
-    occupiedPlane ∷
-    inGrams (weightPlane 0 (q .total .up + 2 * r) (2 * s .dry + q .total .down)) ∷
-    inGrams (weightPlane 1 (q .total .up + 2 * r) (2 * s .wet + q .total .down)) ∷
-    cond (eqb (s .nlp) 0) noLimit (inGrams (weightPlane 0 (q .nonLifting .up + 2 * r) (2 * s .nlp + q .nonLifting .down))) ∷
-    inGrams (fwdPlane q r) ∷
-    inGrams (aftPlane q r) ∷ []
-
--- an order of what a half-plane's two ends are
-pub holds-test : (l : HalfPlane) (p v m n : ℕ) → m ≡ l .gamma0 + v * l .gamma1 + l .delta * p → n ≡ l .alpha0 + v * l .alpha1 + l .beta * p → leb m n ≡ holds l p v
-unfolding holds
-holds-test l p v m n e f = rw (e, f)
-
-unless : (t u : Bool) (l : HalfPlane) (p v : ℕ) → u ≡ holds l p v → (t || u) ≡ holds (cond t noLimit l) p v
-unfolding holds
-unless true u l p v e = sym (le-leb (0 + v * 0 + 0 * p) (0 + v * 0 + 0 * p) (omega arith))
-unless false u l p v e = e
-
--- every sheet and every balance: to keep the limits is to keep six half-planes
-pub keeps-planes : (s : Sheet) (b : Balance) (r : ℕ) → Says (planesOf s b r) (keepsAt s b r)
-unfolding allHold planesOf
-keeps-planes s b r p v =
-    let q = partsOf s b in
-    let t = q .total in
-    let n = q .nonLifting in
-    let dry = inGrams (weightPlane 0 (t .up + 2 * r) (2 * s .dry + t .down)) in
-    let wet = inGrams (weightPlane 1 (t .up + 2 * r) (2 * s .wet + t .down)) in
-    let nlp = inGrams (weightPlane 0 (n .up + 2 * r) (2 * s .nlp + n .down)) in
-    keeps-tests s b q (parts-of s b) r p v _ _ _ _ _ _
-    (holds-test occupiedPlane p v 1 p (omega arith) (omega arith))
-    (holds-test dry p v (halves q r p 0) (2 * s .dry + t .down) (omega arith) (omega arith))
-    (holds-test wet p v (halves q r p v) (2 * s .wet + t .down) (omega arith) (omega arith))
-    (unless (eqb (s .nlp) 0) _ nlp p v (holds-test nlp p v (n .up + 2 * (p + r)) (2 * s .nlp + n .down) (omega arith) (omega arith)))
-    (holds-test (inGrams (fwdPlane q r)) p v (fwdLow q r p v) (fwdHigh q r p v) (omega arith) (omega arith))
-    (holds-test (inGrams (aftPlane q r)) p v (aftLow q r p v) (aftHigh q r p v) (omega arith) (omega arith))
+pub hold-lines : (s : Sheet) (arm : ℤ) (b : Balance) (r p v : ℕ) → Hold s arm b r p v → keepsAt s arm b r p v ≡ true
+unfolding keepsAt lines all
+hold-lines s arm b r p v h = rw (h .seat, h .dry, h .wet, h .nlp, h .fwd, h .aft)

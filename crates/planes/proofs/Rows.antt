@@ -1,22 +1,25 @@
 -- What a row prints: the steps that keep every limit are exactly the steps in its range. Both ends are such steps, and limits that
 -- half-planes say grow evenly with the front load, so what lies between them keeps them too. One argument for all limits; those of
--- a sheet and a balance are `limits-of`. Assumes nothing.
+-- a sheet, a seat and a balance are `limits-of`. Assumes nothing.
 use mathlib.Core.Path.{_≡_, refl, sym, ap, _∙_}
 use mathlib.Core.Bool.{Bool, true, false, not, _&&_, true≢false}
 use mathlib.Core.List.{List, [], _∷_}
 use Prim.Native.Nat.{ℕ, _%_, _≤_}
 use native.Mathlib.Omega.{arith}
 use lib.Dec.{leb, eqb}
+use lib.IntN.{ℤ}
 use borrow.Author.Tests.{leb-true}
 use Rattle.laws.specs.Tests.{same, both, left, right, right-fails, in-span, span-lo, span-hi, and-by, and-not, clash}
 use Rattle.paper.specs.declared.Sheet.{Sheet}
+use Rattle.paper.specs.declared.Seat.{Seat}
 use Rattle.paper.specs.declared.Row.{Row}
 use Rattle.paper.specs.declared.Row.the-variants.{Range, Blank}
 use Rattle.paper.specs.Record.{Balance}
-use Rattle.paper.specs.Rows.{lines, all, anyFails, keepsAt, breaksAt, upTo, isStep, keeps, rowOf, row, inRange, isBlank}
-use Rattle.planes.specs.Plane.{HalfPlane, Says}
+use Rattle.paper.specs.Rows.{lines, all, anyFails, keepsAt, breaksAt, upTo, travel, breaks, isStep, keeps, good, rowOf, row, inRange, isBlank}
+use Rattle.planes.specs.Plane.{HalfPlane, keptAt, Says}
 use Rattle.planes.proofs.Searches.{up-to, up-to-at, Outcome, a-range, a-blank, outcome, found, row-of-none}
-use Rattle.planes.proofs.Lines.{planesOf, keeps-planes}
+use Rattle.planes.proofs.Arms.{armAt, every-arm, at-every-arm, no-arm, kept-ends}
+use Rattle.planes.proofs.HalfPlanes.{planesOf, keeps-planes}
 use Rattle.planes.proofs.Convex.{convex}
 
 -- ---- any limits
@@ -87,19 +90,41 @@ module _ {step : ℕ → Bool} {most : ℕ} {at : ℕ → ℕ → Bool} {w : ℕ
   pub ends-kept : (lo hi : ℕ) → rowOf keeps most ≡ Range lo hi → (at lo 0 ≡ true) × (at hi 0 ≡ true)
   ends-kept lo hi e = let h = found keeps most lo hi e in (keeps-at lo (h .0) 0 (omega arith), keeps-at hi (h .1) 0 (omega arith))
 
--- ---- those of a sheet and a balance
+-- ---- those of a sheet, a seat and a balance
 
-pub keeps-is : (s : Sheet) (b : Balance) (r w p : ℕ) → keeps s b r w p ≡ (isStep s p && upTo (keepsAt s b r p) w)
+keeps-is : (s : Sheet) (arm : ℤ) (b : Balance) (r w p : ℕ) → keeps s arm b r w p ≡ (isStep s p && upTo (keepsAt s arm b r p) w)
 unfolding keeps
-keeps-is s b r w p = and-by (isStep s p) (upTo (keepsAt s b r p) w)
+keeps-is s arm b r w p = and-by (isStep s p) (upTo (keepsAt s arm b r p) w)
+
+-- a load is good where it is a step, and the limits hold with every part of the water at every arm: whether the arms or the parts
+-- are gone through first makes no difference
+pub good-is : (s : Sheet) (f : Seat) (b : Balance) (r w p : ℕ) → good s f b r w p ≡ (isStep s p && upTo (keptAt s f b r p) w)
+unfolding keptAt
+good-is s f b r w p =
+    let step = isStep s p in
+    let parts : ℤ → Bool = λ arm. upTo (keepsAt s arm b r p) w in
+    same (good s f b r w p) (step && upTo (keptAt s f b r p) w)
+    (λ e.
+    let each : (d : ℕ) → d ≤ travel f → (step && parts (armAt f d)) ≡ true =
+    λ d h. sym (keeps-is s (armAt f d) b r w p) ∙ at-every-arm f (λ arm. keeps s arm b r w p) e d h in
+    both step (upTo (keptAt s f b r p) w) (left step _ (each 0 (omega arith)))
+    (up-to (keptAt s f b r p) w
+    (λ v h. every-arm f (λ arm. keepsAt s arm b r p v) (λ d k. up-to-at (keepsAt s (armAt f d) b r p) w (right step _ (each d k)) v h))))
+    (λ e.
+    every-arm f (λ arm. keeps s arm b r w p)
+    (λ d h.
+    keeps-is s (armAt f d) b r w p
+    ∙ both step (parts (armAt f d)) (left step _ e)
+    (up-to (keepsAt s (armAt f d) b r p) w
+    (λ v k. at-every-arm f (λ arm. keepsAt s arm b r p v) (up-to-at (keptAt s f b r p) w (right step _ e) v k) d h))))
 
 step-most : (s : Sheet) (p : ℕ) → isStep s p ≡ true → p ≤ s .front .most
 unfolding isStep
 step-most s p e = leb-true p (s .front .most) (right (eqb (p % s .front .step) 0 && leb (s .least) p) (leb p (s .front .most)) e)
 
-pub limits-of : (s : Sheet) (b : Balance) (r w : ℕ) → Limits (isStep s) (s .front .most) (keepsAt s b r) w (keeps s b r w)
-limits-of s b r w =
-    record { planes = planesOf s b r; says = keeps-planes s b r; bound = step-most s; is = keeps-is s b r w }
+pub limits-of : (s : Sheet) (f : Seat) (b : Balance) (r w : ℕ) → Limits (isStep s) (s .front .most) (keptAt s f b r) w (good s f b r w)
+limits-of s f b r w =
+    record { planes = planesOf s f b r; says = keeps-planes s f b r; bound = step-most s; is = good-is s f b r w }
 
 -- what keeps them breaks none: no line fails where all hold
 fails : (xs : List Bool) → all xs ≡ true → anyFails xs ≡ false
@@ -108,20 +133,22 @@ fails [] e = refl
 fails (true ∷ xs) e = fails xs e
 fails (false ∷ xs) e = sym e
 
-pub breaks-none : (s : Sheet) (b : Balance) (r p v : ℕ) → keepsAt s b r p v ≡ true → breaksAt s b r p v ≡ false
-unfolding keepsAt breaksAt
-breaks-none s b r p v e = fails (lines s b r p v) e
+pub breaks-none : (s : Sheet) (f : Seat) (b : Balance) (r p v : ℕ) → keptAt s f b r p v ≡ true → breaks s f b r p v ≡ false
+unfolding keptAt keepsAt breaksAt
+breaks-none s f b r p v e =
+    no-arm f (λ arm. breaksAt s arm b r p v)
+    (λ d h. fails (lines s (armAt f d) b r p v) (at-every-arm f (λ arm. keepsAt s arm b r p v) e d h))
 
 -- a printed range ends at the greatest front load at most
-pub range-most : (s : Sheet) (b : Balance) (r w lo hi : ℕ) → row s b r w ≡ Range lo hi → (lo ≤ s .front .most) × (hi ≤ s .front .most)
+pub range-most : (s : Sheet) (f : Seat) (b : Balance) (r w lo hi : ℕ) → row s f b r w ≡ Range lo hi → (lo ≤ s .front .most) × (hi ≤ s .front .most)
 unfolding row
-range-most s b r w lo hi e = let h = found (keeps s b r w) (s .front .most) lo hi e in (h .2, h .3)
+range-most s f b r w lo hi e = let h = found (good s f b r w) (s .front .most) lo hi e in (h .2, h .3)
 
--- and does not begin at 0: nobody in the seat breaks a limit, whatever the water
-pub empty-breaks : (s : Sheet) (b : Balance) (r v : ℕ) → breaksAt s b r 0 v ≡ true
+-- and does not begin at 0: nobody in the seat breaks a limit, whatever the water and wherever the seat
+pub empty-breaks : (s : Sheet) (arm : ℤ) (b : Balance) (r v : ℕ) → breaksAt s arm b r 0 v ≡ true
 unfolding breaksAt anyFails lines
-empty-breaks s b r v = refl
+empty-breaks s arm b r v = refl
 
-pub range-occupied : (s : Sheet) (b : Balance) (r w lo hi : ℕ) → row s b r w ≡ Range lo hi → 1 ≤ lo
-unfolding row keepsAt all lines
-range-occupied s b r w lo hi e = leb-true 1 lo (left (leb 1 lo) _ (ends-kept (limits-of s b r w) lo hi e .0))
+pub range-occupied : (s : Sheet) (f : Seat) (b : Balance) (r w lo hi : ℕ) → row s f b r w ≡ Range lo hi → 1 ≤ lo
+unfolding row
+range-occupied s f b r w lo hi e = leb-true 1 lo (kept-ends s f b r lo 0 (ends-kept (limits-of s f b r w) lo hi e .0) .seat)

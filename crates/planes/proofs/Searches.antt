@@ -11,7 +11,7 @@ use native.Mathlib.Omega.{arith}
 use Rattle.laws.specs.Tests.{both, left, right, and-by, clash}
 use Rattle.paper.specs.declared.Row.{Row}
 use Rattle.paper.specs.declared.Row.the-variants.{Range, Blank}
-use Rattle.paper.specs.Rows.{upTo, smallest, largest, rowOf, isBlank}
+use Rattle.paper.specs.Rows.{upTo, oneTo, smallest, largest, rowOf, isBlank}
 
 -- ---- each number passes
 
@@ -33,6 +33,18 @@ up-to-at q (suc n) e v h =
     ⊎-elim (λ (z : v ≡ suc n). rw z (left (q (suc n)) (upTo q n) e′))
     (λ (z : v < suc n). up-to-at q n (right (q (suc n)) (upTo q n) e′) v (omega arith))
     (eq-or-lt-of-le h)
+
+-- ---- none passes
+
+none-by : (q : ℕ → Bool) (n : ℕ) (b : Bool) → q (suc n) ≡ b → b ≡ false → oneTo q n ≡ false → oneTo q (suc n) ≡ false
+unfolding oneTo
+none-by q n true e f h = absurd (clash true refl f)
+none-by q n false e f h = rw (oneTo, e) h
+
+pub none-to : (q : ℕ → Bool) (n : ℕ) → ((v : ℕ) → v ≤ n → q v ≡ false) → oneTo q n ≡ false
+unfolding oneTo
+none-to q zero h = h zero (omega arith)
+none-to q (suc n) h = none-by q n (q (suc n)) refl (h (suc n) (omega arith)) (none-to q n (λ v k. h v (omega arith)))
 
 -- ---- the smallest, among the n numbers from p on
 

@@ -1,12 +1,11 @@
 // The placard of a record: a line for each row of the sheet in force, into a lent buffer.
 use paper::Placard;
 use record::Record;
-use sheet::InForce;
+use seat::InForce;
 ghost use mathlib.Core.Path.{_≡_};
 ghost use Prim.Native.Nat.{_≤_};
-ghost use Rattle.paper.specs.Record.{sheetOf};
 ghost use Rattle.paper.specs.Answers.{placardAnswer};
-ghost use Rattle.sheet.specs.InForce.{found};
+ghost use Rattle.seat.specs.InForce.{found, inForce};
 ghost use Rattle.record.specs.Held.{slotted, heldBy};
 ghost use Rattle.plate.specs.Longest.{IsLongest};
 
@@ -20,17 +19,17 @@ pub fn longest() -> usize
     LONGEST
 }
 
-// The last sheet in a record's slots.
+// What is in force by a record's slots.
 fn in_force(r: Record) -> InForce
     requires { ⌜ r .count ≤ 64 ⌝ }
-    ensures { λ f. ⌜ found f ≡ sheetOf (slotted r) ⌝ }
+    ensures { λ f. ⌜ found f ≡ inForce (slotted r) ⌝ }
 {
     let mut last = InForce::Nothing;
     let mut i = 0;
     while i < r.count {
         let slot = r.slots[i];
         let e = slot.entry;
-        last = sheet::later(last, e);
+        last = seat::later(last, e);
         i += 1;
     }
     last
@@ -42,6 +41,5 @@ pub fn placard(r: Record, out: &mut [u8]) -> Placard
 {
     let now = record::replay(r);
     let log = now.log;
-    let standing = now.standing;
-    page::answer(standing, in_force(log), out)
+    page::answer(now.standing, in_force(log), out)
 }

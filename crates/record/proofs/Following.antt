@@ -15,7 +15,7 @@ use Rattle.paper.specs.declared.Entry.the-variants as entry
 use Rattle.paper.specs.Refusals.{entryNumber, acceptedAfter, accepted, onlyAccepted, fileOf}
 use Rattle.paper.specs.File.{laidOut}
 use Rattle.paper.proofs.Lists.{last-apart}
-use Rattle.paper.specs.Journal.{Call, weigh, pair, install, change, undo, read, callNumber, acceptedCall, afterBy, afterCall, withoutLast, entriesOr}
+use Rattle.paper.specs.Journal.{Call, weigh, pair, install, change, seat, undo, read, callNumber, acceptedCall, afterBy, afterCall, withoutLast, entriesOr}
 use Rattle.record.specs.declared.Record.{Record}
 use Rattle.record.specs.declared.Kept.{Kept}
 use Rattle.record.specs.Held.{recordOf, heldBy, keptOr, answered}
@@ -51,6 +51,7 @@ call-accepted es (weigh w) h n = accepted-more es (entry.Weighing w) h n
 call-accepted es (pair x) h n = accepted-more es (entry.Paired x) h n
 call-accepted es (install s) h n = accepted-more es (entry.Sheet s) h n
 call-accepted es (change x) h n = accepted-more es (entry.Change x) h n
+call-accepted es (seat f) h n = accepted-more es (entry.Seat f) h n
 call-accepted es undo h n = without-accepted es h
 call-accepted es (read xs) h n = only-accepted (laidOut xs) es h
 

@@ -3,19 +3,17 @@
 use mathlib.Core.Path.{_≡_, refl, sym, _∙_, ap}
 use mathlib.Core.Bool.{true}
 use mathlib.Core.List.{List, [], _∷_, _++_, map}
-use mathlib.Core.Option.{Option}
 use Prim.Native.Nat.{ℕ, _+_, _≤_, _<_}
 use native.Mathlib.Omega.{arith}
 use lib.ListN.{length, take, getD}
 use lib.Seq.{take-all}
 use Rattle.laws.specs.Lists.{length-more, map-take-more}
 use Rattle.paper.specs.declared.Entry.{Entry}
-use Rattle.paper.specs.Record.{Balance, lastWeighing, balanceOf}
+use Rattle.paper.specs.Record.{lastWeighing, balanceOf, sheetOf, isNone, sheetStands}
 use Rattle.paper.specs.Refusals.{entryNumber, acceptedAfter, accepted}
 use Rattle.judge.specs.declared.Standing.{Standing}
-use Rattle.judge.specs.declared.Standing.the-variants.{Unweighed}
-use Rattle.judge.specs.Standing.{plainly, Sound, numberAt, after}
-use Rattle.judge.proofs.Following.{balance-more, number-at}
+use Rattle.judge.specs.Standing.{Stands, standsIn, nothing, plainly, Sound, numberAt, after}
+use Rattle.judge.proofs.Following.{stands-more, number-at}
 use Rattle.record.specs.declared.Slot.{Slot}
 use Rattle.record.specs.declared.Record.{Record}
 use Rattle.record.specs.declared.Replayed.{Replayed}
@@ -29,11 +27,11 @@ use Rattle.record.proofs.Lists.{put-is}
 -- n entries stand, and what of them
 pub record StandsAt (es : List Entry) (n : ℕ) (s : Standing) : Type 0 where
   pub count : n ≡ length es
-  pub stands : plainly s ≡ balanceOf es
+  pub stands : plainly s ≡ standsIn es
   pub sound : Sound n s
 
-pub none-stand : StandsAt [] 0 Unweighed
-unfolding balanceOf lastWeighing
+pub none-stand : StandsAt [] 0 nothing
+unfolding standsIn balanceOf lastWeighing sheetStands sheetOf isNone
 none-stand = record { count = refl; stands = refl; sound = tt }
 
 module _ (es : List Entry) (n : ℕ) (s : Standing) (at : StandsAt es n s) (e : Entry) where
@@ -44,7 +42,7 @@ module _ (es : List Entry) (n : ℕ) (s : Standing) (at : StandsAt es n s) (e : 
   one-stands t p q =
       record {
         count = ap (λ (k : ℕ). k + 1) (at .count) ∙ sym (length-more es e);
-        stands = p ∙ ap (λ (o : Option Balance). after o e) (at .stands) ∙ sym (balance-more es e);
+        stands = p ∙ ap (λ (o : Stands). after o e) (at .stands) ∙ sym (stands-more es e);
         sound = q;
       }
 
@@ -81,7 +79,7 @@ held-most r = at-most-64 (heldBy r) (held-accepted r)
 
 -- ---- with a record of the list
 
-pub begun : (l : Record) → l ≡ recordOf [] → ReplayedAs [] (record { log = l; standing = Unweighed })
+pub begun : (l : Record) → l ≡ recordOf [] → ReplayedAs [] (record { log = l; standing = nothing })
 begun l e = record { log = e; stands = none-stand .stands; sound = tt }
 
 pub one-more : (slots : List Slot) (i : ℕ) (d : Slot) (s : Replayed) → i < length slots → ReplayedAs (keptBehind (heldTo slots i) (entryIn (getD slots i d))) s → ReplayedAs (heldTo slots (i + 1)) s

@@ -8,10 +8,9 @@ use lib.IntN.{pos}
 use lib.ListN.{length, take, set, replicate}
 use Rattle.paper.specs.declared.Entry.{Entry}
 use Rattle.paper.specs.declared.Entry.the-variants as entry
-use Rattle.paper.specs.Record.{balanceOf}
 use Rattle.paper.specs.Refusals.{capacity, entryNumber}
 use Rattle.paper.specs.Journal.{Call, callNumber, acceptedCall}
-use Rattle.judge.specs.Standing.{plainly, Sound}
+use Rattle.judge.specs.Standing.{standsIn, plainly, Sound}
 use Rattle.record.specs.declared.Slot.{Slot}
 use Rattle.record.specs.declared.Record.{Record}
 use Rattle.record.specs.declared.Kept.{Kept}
@@ -70,5 +69,5 @@ put r e = record { slots = set (r .slots) (r .count) (slotOf e); count = r .coun
 -- a replay has come to a list
 pub record ReplayedAs (es : List Entry) (r : Replayed) : Type 0 where
   pub log : r .log ≡ recordOf es
-  pub stands : plainly (r .standing) ≡ balanceOf es
+  pub stands : plainly (r .standing) ≡ standsIn es
   pub sound : Sound (length es) (r .standing)

@@ -2,11 +2,13 @@
 // entries that it holds, so it answers for every value of the type, also for one that no call made.
 use judge::Judged;
 use judge::Standing;
+use judge::Weighed;
 use paper::CAPACITY;
 use paper::CentreOfGravity;
 use paper::Change;
 use paper::Entry;
 use paper::Paired;
+use paper::Seat;
 use paper::Sheet;
 use paper::Weighing;
 ghost use mathlib.Core.Path.{_≡_};
@@ -56,7 +58,10 @@ pub fn replay(r: Record) -> Replayed
     ensures { λ s. ⌜ ReplayedAs (heldBy r) s ⌝ }
 {
     let mut slots = [unused(); CAPACITY];
-    let mut standing = Standing::Unweighed;
+    let mut standing = Standing {
+        weighed: Weighed::Never,
+        sheet: false,
+    };
     let mut n = 0;
     let mut i = 0;
     while i < CAPACITY && i < r.count {
@@ -84,8 +89,7 @@ fn add(r: Record, e: Entry) -> Kept
 {
     let now = replay(r);
     let at = now.log.count;
-    let standing = now.standing;
-    match judge::judge(at, standing, e) {
+    match judge::judge(at, now.standing, e) {
         Judged::Refused(number) => Kept { number, log: r },
         Judged::Accepted(_) => {
             let mut next = now.log;
@@ -136,6 +140,13 @@ impl Record {
         add(self, Entry::Change(x))
     }
 
+    // A seat entry.
+    pub fn adjust_seat(self, f: Seat) -> Kept
+        ensures { λ r. ⌜ r ≡ answered self (journal.seat f) ⌝ }
+    {
+        add(self, Entry::Seat(f))
+    }
+
     // Taking back.
     pub fn undo(self) -> Kept
         ensures { λ r. ⌜ r ≡ answered self journal.undo ⌝ }
@@ -163,7 +174,6 @@ impl Record {
         ensures { λ r. ⌜ r ≡ centreAnswer (heldBy self) ⌝ }
     {
         let now = replay(self);
-        let standing = now.standing;
-        centre::answer(standing)
+        centre::answer(now.standing)
     }
 }

@@ -1,18 +1,18 @@
 -- What is in force of a list with one entry more, and that it was accepted: by recursion on the list. Assumes nothing.
 use mathlib.Core.Path.{_≡_, refl, sym, ap, _∙_}
-use mathlib.Core.Bool.{true, false, cond, true≢false}
+use mathlib.Core.Bool.{true, false, cond, not, true≢false}
 use mathlib.Core.List.{List, [], _∷_, _++_}
 use mathlib.Core.Option.{Option, none, some, Option·map, orElse, Option·some-injective}
 use native.Mathlib.Omega.{arith}
 use lib.Dec.{eqb}
 use borrow.Author.Tests.{eqb-true}
 use Rattle.laws.specs.Tests.{left, right}
-use Rattle.laws.specs.Options.{or-none, or-either, cond-kept}
+use Rattle.laws.specs.Options.{or-either, cond-other}
 use Rattle.paper.specs.declared.Sheet.{Sheet}
 use Rattle.paper.specs.declared.Seat.{Seat}
 use Rattle.paper.specs.declared.Entry.{Entry}
 use Rattle.paper.specs.declared.Entry.the-variants as entry
-use Rattle.paper.specs.Record.{asSheet, sheetOf, asSeat, seatOf, endsOf, isNone}
+use Rattle.paper.specs.Record.{asSheet, sheetOf, asSeat, seatOf, endsOf, isNone, sheetStands}
 use Rattle.paper.specs.Refusals.{firstNumber, full, sheetFaults, badEnds, seatFaults, seatNumber, entryNumber, acceptedAfter, accepted}
 use Rattle.paper.proofs.Numbers.{no-first, no-other}
 use Rattle.sheet.proofs.Lists.{sheet-more, sheet-accepted}
@@ -23,19 +23,19 @@ use Rattle.seat.proofs.Ends.{fixed-ends}
 
 -- a sheet ends the seat
 seat-ended : (es : List Entry) (s : Sheet) → seatOf (es ++ entry.Sheet s ∷ []) ≡ none
-unfolding seatOf sheetOf orElse isNone
+unfolding seatOf sheetOf orElse isNone sheetStands
 seat-ended [] s = refl
 seat-ended (f ∷ es) s = rw (seat-ended es s, sheet-more es (entry.Sheet s))
 
 -- a seat entry is the last
 seat-moved : (es : List Entry) (f : Seat) → seatOf (es ++ entry.Seat f ∷ []) ≡ some f
-unfolding seatOf sheetOf orElse isNone
+unfolding seatOf sheetOf orElse isNone sheetStands
 seat-moved [] f = refl
 seat-moved (g ∷ es) f = rw (seat-moved es f)
 
 -- another entry leaves the seat
 seat-stays : (es : List Entry) (e : Entry) → asSheet e ≡ none → asSeat e ≡ none → seatOf (es ++ e ∷ []) ≡ seatOf es
-unfolding seatOf sheetOf orElse isNone
+unfolding seatOf sheetOf orElse isNone sheetStands
 seat-stays [] e h k = k
 seat-stays (f ∷ es) e h k = rw (seat-stays es e h k, sheet-more es e, h)
 
@@ -61,7 +61,7 @@ one-seat es (entry.Change x) f e n = cc
 one-seat es (entry.Paired x) f e n = cc
 one-seat es (entry.Seat g) f e n =
     sym (ap badEnds (Option·some-injective g f e))
-    ∙ no-first 2 (badEnds g) [] (omega arith) (no-other 8 (isNone (sheetOf es)) _ (omega arith) (no-other 9 (full es) _ (omega arith) n))
+    ∙ no-first 2 (badEnds g) [] (omega arith) (no-other 8 (not (sheetStands es)) _ (omega arith) (no-other 9 (full es) _ (omega arith) n))
 
 seat-after : (es fs : List Entry) (f : Seat) → acceptedAfter es fs ≡ true → seatOf fs ≡ some f → badEnds f ≡ false
 unfolding acceptedAfter seatOf
@@ -69,9 +69,9 @@ seat-after es [] f h e = cc
 seat-after es (g ∷ fs) f h e =
     let n = eqb-true (entryNumber es g) 0 (left (eqb (entryNumber es g) 0) (acceptedAfter (es ++ g ∷ []) fs) h) in
     let more = right (eqb (entryNumber es g) 0) (acceptedAfter (es ++ g ∷ []) fs) h in
-    or-either (seatOf fs) (cond (isNone (sheetOf fs)) (asSeat g) none) f (badEnds f ≡ false) e
+    or-either (seatOf fs) (cond (sheetStands fs) none (asSeat g)) f (badEnds f ≡ false) e
     (λ k. seat-after (es ++ g ∷ []) fs f more k)
-    (λ k. one-seat es g f (cond-kept (isNone (sheetOf fs)) (asSeat g) f k) n)
+    (λ k. one-seat es g f (cond-other (sheetStands fs) (asSeat g) f k) n)
 
 -- the sheet in force of an accepted list is one that its call accepts, and so are the ends of its front arm
 module _ (es : List Entry) (s : Sheet) (h : accepted es ≡ true) (e : sheetOf es ≡ some s) where

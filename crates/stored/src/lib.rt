@@ -3,16 +3,17 @@ use entries::Walk;
 use header::HEADER;
 use judge::Judged;
 use judge::Standing;
+use judge::Weighed;
 use paper::CAPACITY;
 use paper::Entry;
-use sheet::InForce;
+use seat::InForce;
 ghost use mathlib.Core.Path.{_≡_};
 ghost use lib.ListN.{drop};
 ghost use Rattle.paper.specs.Refusals.{fileOf};
 ghost use Rattle.stored.specs.Kinds.{entriesTo, walkTo};
 ghost use Rattle.stored.specs.Found.{Finds};
 
-// What stands in the file of a record: how many entries, their balance, the sheet in force, the place of the last entry (behind
+// What stands in the file of a record: how many entries, their balance, what is in force, the place of the last entry (behind
 // the header where there is none) and the place behind it.
 pub struct Contents {
     pub count: usize,
@@ -46,7 +47,10 @@ pub fn entry_to(s: &[u8], at: usize, kinds: u8) -> Walk
 fn survey_entries(s: &[u8], kinds: u8, count: usize) -> Stored
     ensures { λ r. ⌜ Finds (entriesTo kinds count (drop 6 (now (s .entry)))) r ⌝ }
 {
-    let mut standing = Standing::Unweighed;
+    let mut standing = Standing {
+        weighed: Weighed::Never,
+        sheet: false,
+    };
     let mut sheet = InForce::Nothing;
     let mut last = HEADER;
     let mut at = HEADER;
@@ -64,9 +68,10 @@ fn survey_entries(s: &[u8], kinds: u8, count: usize) -> Stored
         i += 1;
         match entry {
             Entry::Weighing(_) => {}
-            Entry::Sheet(t) => sheet = InForce::Found(t),
+            Entry::Sheet(t) => sheet = InForce::Found(t, seat::fixed(t)),
             Entry::Change(_) => {}
             Entry::Paired(_) => {}
+            Entry::Seat(f) => sheet = seat::moved(sheet, f),
         }
     }
     if at < s.len() {

@@ -15,7 +15,7 @@
 //! 4e7, so their product is at most 4e14. The coefficients of P, at most 8e6 and
 //! 1.6e8, times a front step of 5e5 come to 8e13. An `i64` holds 9.2e18.
 
-use crate::paper::{Call, Centre, Change, Counts, Paired, Sheet, Weighing};
+use crate::paper::{Call, Centre, Change, Counts, Paired, Seat, Sheet, Weighing};
 
 /// Half grams in a gram.
 pub(crate) const HALVES: i64 = 2;
@@ -37,6 +37,7 @@ const WEIGHING: usize = 22;
 const SHEET: usize = 61;
 pub(crate) const CHANGE: usize = 10;
 const PAIRED: usize = 30;
+const SEAT: usize = 9;
 /// Bytes of a line and of one of its fields.
 pub(crate) const LINE: usize = 36;
 pub(crate) const FIELD: usize = 8;
@@ -190,6 +191,16 @@ pub(crate) fn change(before: Option<Sums>, change: &Change) -> Answer<Sums> {
     Ok(Sums { g, m, n })
 }
 
+/// Refused with 8 or 2.
+fn adjust(sheet: Option<usize>, seat: &Seat) -> Answer<()> {
+    sheet.ok_or(8u64)?;
+    if -ARM <= seat.lower && seat.lower <= seat.higher && seat.higher <= ARM {
+        Ok(())
+    } else {
+        Err(2)
+    }
+}
+
 // ---- The file ----
 
 fn unsigned<const N: usize>(bytes: &[u8; N], at: usize) -> u64 {
@@ -257,6 +268,13 @@ fn paired_from(bytes: &[u8; PAIRED]) -> Paired {
     }
 }
 
+fn seat_from(bytes: &[u8; SEAT]) -> Seat {
+    Seat {
+        lower: signed(bytes, 1),
+        higher: signed(bytes, 5),
+    }
+}
+
 /// Puts the low four bytes of a field: accepted values fit, and a negative one
 /// is then in two's complement.
 fn put<const N: usize>(bytes: &mut [u8; N], at: usize, field: u64) {
@@ -320,6 +338,14 @@ fn paired_bytes(x: &Paired) -> [u8; PAIRED] {
     bytes
 }
 
+fn seat_bytes(seat: &Seat) -> [u8; SEAT] {
+    let mut bytes = [0; SEAT];
+    bytes[0] = 5;
+    put(&mut bytes, 1, seat.lower as u64);
+    put(&mut bytes, 5, seat.higher as u64);
+    bytes
+}
+
 /// What one pass over a file tells of its record.
 pub(crate) struct Record {
     /// Bytes of the whole file.
@@ -334,6 +360,8 @@ pub(crate) struct Record {
     pub(crate) sums: Option<Sums>,
     /// Where the sheet in force begins, if there is one.
     sheet: Option<usize>,
+    /// The seat in force, if one stands behind that sheet.
+    seat: Option<Seat>,
 }
 
 impl Record {
@@ -354,6 +382,7 @@ impl Record {
             last: HEAD,
             sums: None,
             sheet: None,
+            seat: None,
         };
         Some((record, entries))
     }
@@ -373,6 +402,7 @@ impl Record {
                 let (entry, rest) = rest.split_first_chunk()?;
                 install(&sheet_from(entry)).ok()?;
                 self.sheet = Some(self.last);
+                self.seat = None;
                 Some(rest)
             }
             3 => {
@@ -383,6 +413,13 @@ impl Record {
             4 if self.version == VERSION => {
                 let (entry, rest) = rest.split_first_chunk()?;
                 self.sums = Some(pair(&paired_from(entry)).ok()?);
+                Some(rest)
+            }
+            5 if self.version == VERSION => {
+                let (entry, rest) = rest.split_first_chunk()?;
+                let seat = seat_from(entry);
+                adjust(self.sheet, &seat).ok()?;
+                self.seat = Some(seat);
                 Some(rest)
             }
             _ => None,
@@ -455,6 +492,7 @@ pub(crate) fn call_by(
         Call::Pair(x) => add_pair(buffer, &record, x),
         Call::Install(s) => add_sheet(buffer, &record, s),
         Call::Change(c) => add_change(buffer, &record, c),
+        Call::Seat(s) => add_seat(buffer, &record, s),
         Call::Undo => undo(buffer, &record),
         Call::Read(bytes) => replace(buffer, bytes, &record),
     });
@@ -483,6 +521,12 @@ fn add_change(buffer: &mut [u8], record: &Record, c: &Change) -> Answer<()> {
     has_place(record)?;
     change(record.sums, c)?;
     append(buffer, record, &change_bytes(c))
+}
+
+fn add_seat(buffer: &mut [u8], record: &Record, s: &Seat) -> Answer<()> {
+    has_place(record)?;
+    adjust(record.sheet, s)?;
+    append(buffer, record, &seat_bytes(s))
 }
 
 /// Whether there is a place for one more entry; refused with 9.
@@ -542,12 +586,16 @@ impl Record {
 
 // ---- A row ----
 
-/// The limits of a sheet, made ready for the number k of front steps.
+/// The limits of a sheet and a seat, made ready for the number k of front steps.
 ///
 /// With P = k·step every line of "A row" reads factor·k ≤ room in half grams.
 /// The factor is the same for all rows; only the room depends on rear load and
 /// water. So a row takes three divisions: the weights, S ≥ FWD·T and the safe
 /// aft limit.
+///
+/// A load is never negative, so that S is least at the lower end of the seat and
+/// greatest at the higher one: of all its arms S ≥ FWD·T is hardest at the one, the
+/// safe aft limit at the other.
 pub(crate) struct Limits {
     /// Front steps between the least and the greatest front load; 0 is none of
     /// them, since somebody must be in the seat.
@@ -611,12 +659,12 @@ impl Steps {
 }
 
 impl Limits {
-    fn new(sums: &Sums, sheet: &Sheet) -> Limits {
+    fn new(sums: &Sums, sheet: &Sheet, seat: &Seat) -> Limits {
         let Sums { g, m, n } = *sums;
         let halves = |grams: u64| HALVES * grams as i64;
         let factor = halves(sheet.front_step);
         let (fwd, safe) = (sheet.fwd, 19 * sheet.aft + sheet.fwd);
-        let (front, rear, water) = (sheet.front_arm, sheet.rear_arm, sheet.water_arm);
+        let (rear, water) = (sheet.rear_arm, sheet.water_arm);
         let mut dry = halves(sheet.dry) - g;
         if sheet.nlp != 0 {
             dry = dry.min(halves(sheet.nlp) - n);
@@ -631,13 +679,13 @@ impl Limits {
             dry,
             wet: halves(sheet.wet) - g,
             forward: Line {
-                factor: (fwd - front) * factor,
+                factor: (fwd - seat.lower) * factor,
                 room: m - fwd * g,
                 rear: rear - fwd,
                 water: water - fwd,
             },
             aft: Line {
-                factor: (20 * front - safe) * factor,
+                factor: (20 * seat.higher - safe) * factor,
                 room: safe * g - 20 * m,
                 rear: safe - 20 * rear,
                 water: safe - 20 * water,
@@ -700,6 +748,14 @@ impl Record {
         Some(sheet_from(entry))
     }
 
+    /// The seat in force, or the front arm of the sheet as both ends.
+    fn ends(&self, sheet: &Sheet) -> Seat {
+        self.seat.unwrap_or(Seat {
+            lower: sheet.front_arm,
+            higher: sheet.front_arm,
+        })
+    }
+
     /// The page of a placard at the front of `out`; refused with 7, 8 or 11.
     pub(crate) fn page<'a>(&self, buffer: &[u8], out: &'a mut [u8]) -> Answer<Page<'a>> {
         let sums = self.sums.ok_or(7u64)?;
@@ -709,7 +765,7 @@ impl Record {
         let (lines, _) = out.get_mut(..rows * LINE).ok_or(11u64)?.as_chunks_mut();
         Ok(Page {
             sheet,
-            limits: Limits::new(&sums, &sheet),
+            limits: Limits::new(&sums, &sheet, &self.ends(&sheet)),
             waters,
             lines,
         })

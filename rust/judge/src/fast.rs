@@ -1,8 +1,8 @@
 //! The same answers a third time, as fast as safe Rust gives them: what the proved
 //! library is timed against.
 //!
-//! The conditions of the entries, the bytes of the file and the limits of a sheet
-//! are those of [`direct`](crate::direct). What is done otherwise:
+//! The conditions of the entries, the bytes of the file and the limits of a sheet and
+//! a seat are those of [`direct`](crate::direct). What is done otherwise:
 //!
 //! - Changes that stand behind one another are read by a loop of their own.
 //! - A row takes no division. A limit's room changes evenly with the water, so its

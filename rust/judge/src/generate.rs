@@ -10,11 +10,13 @@ use edges::edge_call;
 use files::{any_version, damaged};
 use glider::{any_glider, lighten, seater, toy, worked_plate, Glider};
 use random::Random;
+use seats::beside_a_limit;
 
 mod edges;
 mod files;
 mod glider;
 mod random;
+mod seats;
 
 /// Half grams in a gram.
 const HALVES: i64 = 2;
@@ -90,7 +92,8 @@ pub fn case(seed: u64, index: u64) -> Case {
 // ---- Kind 1: realistic gliders ----
 
 /// Single- and two-seaters with and without water, weighed by all four methods,
-/// with some changes behind; among them the paper's G, H and J and those near.
+/// with some changes behind and some with adjustable seats; among them the paper's
+/// G, H and J and those near.
 fn realistic_case(random: &mut Random) -> Vec<Call> {
     let glider = if random.one_in(4) {
         worked_plate(random)
@@ -111,23 +114,31 @@ fn realistic_case(random: &mut Random) -> Vec<Call> {
     if random.one_in(12) {
         calls.push(glider.weighing_call(random));
     }
+    if random.one_in(3) {
+        calls.extend(glider.seat_calls(random));
+    }
     calls
 }
 
 // ---- Kind 2: every range at its edges ----
 
 /// Every range of the table at its edges and one beyond, one field at a time on
-/// an otherwise good entry; sometimes on an empty journal or on a full one.
+/// an otherwise good entry; sometimes on an empty journal, on one without a weighing
+/// or without a sheet, or on a full one.
 fn edges_case(random: &mut Random) -> Vec<Call> {
     let glider = seater(random);
     let mut calls = match random.below(16) {
         0 => Vec::new(),
         1 => vec![Call::Install(glider.sheet)],
+        2 => vec![glider.weighing_call(random)],
         _ => glider.record(random),
     };
     if random.one_in(12) {
         let full = random.pick(&[63, 64]);
         calls.resize(full, Call::Install(glider.sheet));
+    }
+    if random.one_in(6) {
+        calls.push(Call::Seat(glider.any_seat(random)));
     }
     let mut journal = run(&calls);
     for _ in 0..random.amount(1, 5) {
@@ -140,17 +151,9 @@ fn edges_case(random: &mut Random) -> Vec<Call> {
 
 // ---- Kind 3: arms on and beside the limits ----
 
-/// An arm on a limit or one unit beside it. The safe aft limit is seldom a whole
-/// unit, so both of its neighbours are taken.
-fn beside_a_limit(random: &mut Random, s: &Sheet) -> i64 {
-    let safe = (19 * s.aft + s.fwd).div_euclid(20);
-    let limit = random.pick(&[s.fwd, s.aft, safe, safe + 1]);
-    limit + random.pick(&[0, 0, 0, -1, 1])
-}
-
-/// Front, rear and water arms on and beside FWD, AFT and the safe aft limit, so
-/// that coefficients are 0, 1 or −1 in their units; the moment meets a limit
-/// exactly, or with one unit more or less.
+/// Front, rear and water arms, and the ends of a seat, on and beside FWD, AFT and the
+/// safe aft limit, so that coefficients are 0, 1 or −1 in their units; the moment
+/// meets a limit exactly, or with one unit more or less.
 fn arms_case(random: &mut Random) -> Vec<Call> {
     let mut glider = any_glider(random);
     let s = &mut glider.sheet;
@@ -169,6 +172,11 @@ fn arms_case(random: &mut Random) -> Vec<Call> {
     if random.one_in(3) {
         s.water_arm = beside_a_limit(random, s);
     }
+    glider.seat = match random.below(4) {
+        0 => Some(glider.any_seat(random)),
+        1 => Some(glider.seat_at_limits(random)),
+        _ => None,
+    };
     if random.one_in(3) {
         glider.meet_aft_closely(random);
     } else {
@@ -190,6 +198,9 @@ fn arms_case(random: &mut Random) -> Vec<Call> {
 /// or of both signs.
 fn datum_case(random: &mut Random) -> Vec<Call> {
     let mut glider = any_glider(random);
+    if random.one_in(3) {
+        glider.seat = Some(glider.any_seat(random));
+    }
     if random.one_in(3) {
         glider.meet_somewhere(random, &[0, 1, -1]);
     }
@@ -239,7 +250,8 @@ fn heave(part: Change, i: usize, half: usize) -> Change {
 }
 
 /// Changes up to the 64th and 65th entry: the same part in turn, small ones,
-/// large ones; then taking back, some of it or all and once more.
+/// large ones, seldom with a seat between them or behind; then taking back, some of
+/// it or all and once more.
 fn changes_case(random: &mut Random) -> Vec<Call> {
     let glider = any_glider(random);
     let mut calls = glider.record(random);
@@ -249,7 +261,11 @@ fn changes_case(random: &mut Random) -> Vec<Call> {
     let half = length / 4 * 2;
     let half = random.pick(&[half, half, half, length]);
     let style = random.below(4);
+    let seat_at = random.below(2 * length as u64) as usize;
     for i in 0..length {
+        if i == seat_at {
+            calls.push(Call::Seat(glider.any_seat(random)));
+        }
         let part = glider.part(random);
         calls.push(Call::Change(match style {
             0 => in_turn(light, i),
@@ -260,6 +276,9 @@ fn changes_case(random: &mut Random) -> Vec<Call> {
             2 if i < 2 * half => heave(heavy, i, half),
             _ => part,
         }));
+    }
+    if random.one_in(6) {
+        calls.push(Call::Seat(glider.any_seat(random)));
     }
     take_back(random, &glider, &mut calls);
     calls
@@ -287,9 +306,10 @@ fn some_journal(random: &mut Random) -> Journal {
     let glider = any_glider(random);
     let mut calls = glider.record(random);
     while calls.len() < length {
-        calls.push(match random.below(8) {
+        calls.push(match random.below(9) {
             0 => glider.weighing_call(random),
             1 => Call::Install(glider.sheet),
+            2 | 3 => Call::Seat(glider.any_seat(random)),
             _ => Call::Change(glider.part(random)),
         });
     }
@@ -339,15 +359,16 @@ impl List {
         if random.below(100) < self.undos {
             return Call::Undo;
         }
-        match random.below(20) {
+        match random.below(23) {
             0..=2 => glider.weighing_call(random),
             3..=5 => Call::Install(glider.sheet),
-            6..=7 => edge_call(random, &glider, &self.journal),
-            8 => {
+            6..=8 => Call::Seat(glider.any_seat(random)),
+            9..=10 => edge_call(random, &glider, &self.journal),
+            11 => {
                 let at = random.below(self.files.len() as u64) as usize;
                 Call::Read(self.files[at].clone())
             }
-            9 => Call::Read(damaged(random, &self.journal)),
+            12 => Call::Read(damaged(random, &self.journal)),
             _ => Call::Change(glider.part(random)),
         }
     }
@@ -461,7 +482,11 @@ fn rows_case(random: &mut Random) -> Vec<Call> {
         2 => glider.leave_no_load(random),
         _ => {}
     }
-    glider.record(random)
+    let mut calls = glider.record(random);
+    if random.one_in(4) {
+        calls.push(Call::Seat(glider.any_seat(random)));
+    }
+    calls
 }
 
 // ---- The buffers ----

@@ -1,4 +1,4 @@
-//! Paper 01 by plain loops, and cards 1 and 2 of paper 02 with it.
+//! Paper 01 by plain loops, and cards 1, 2 and 4 of paper 02 with it.
 //!
 //! Every rule stands here as the paper words it, under the paper's heading, and
 //! every number is an `i128`, so that no argument can overflow a test. Nothing
@@ -11,6 +11,11 @@
 //!
 //! Card 2, "nobody in the seat": a front load of 0 "no longer keeps the limits"
 //! with any water aboard, "even where the sheet's least load is 0".
+//!
+//! Card 4, "adjustable seat backs": a seat entry gives two ends that the arm of the
+//! front load lies between. It "overrides the front arm of the sheet before it until
+//! the next sheet or seat entry", and a load is good "only if every limit holds for
+//! every whole arm between the ends, both included".
 //!
 //! Readings of the papers, where their words leave room:
 //!
@@ -33,7 +38,10 @@
 //! - The least total after a change is doubled like the greatest: 2 half grams.
 //!   The water left aboard is still tried by whole grams.
 //! - The centre's total and moment are the sums in half grams.
-//! - A file of version 1 has no pairs; there is no version but 1 and 2.
+//! - A seat entry wants a sheet in the list and no weighing. Equal ends are accepted.
+//!   Weighings and changes leave it in force. A sheet behind it ends it, even an equal
+//!   one, and brings it back when it is taken back itself.
+//! - A file of version 1 has no pairs and no seats; there is no version but 1 and 2.
 
 // Half grams in a gram.
 const HALVES: i128 = 2;
@@ -69,6 +77,9 @@ const FILE: u64 = 12;
 
 /// Up to this much water a row tries every whole gram; above it, both ends.
 const EVERY_GRAM: i128 = 400;
+
+/// The same for the arms from one end of a seat to the other.
+pub(crate) const EVERY_ARM: i128 = 100;
 
 /// A weighing: the method, what the scales read and where they stood.
 #[derive(Clone, Copy, Debug, PartialEq, Eq)]
@@ -154,6 +165,16 @@ pub struct Change {
     pub flag: u64,
 }
 
+/// A seat whose back can be adjusted: the arm of the front load lies between two
+/// ends.
+#[derive(Clone, Copy, Debug, PartialEq, Eq)]
+pub struct Seat {
+    /// The lower end, an arm.
+    pub lower: i64,
+    /// The higher end, an arm.
+    pub higher: i64,
+}
+
 /// An entry of the journal.
 #[derive(Clone, Copy, Debug, PartialEq, Eq)]
 pub enum Entry {
@@ -165,6 +186,8 @@ pub enum Entry {
     Change(Change),
     /// The glider was weighed twice.
     Paired(Paired),
+    /// The front arm lies between two ends.
+    Seat(Seat),
 }
 
 /// A call on the record.
@@ -178,6 +201,8 @@ pub enum Call {
     Install(Sheet),
     /// Add a change.
     Change(Change),
+    /// Add a seat.
+    Seat(Seat),
     /// Take the last entry back.
     Undo,
     /// Replace the record by the one in these bytes.
@@ -316,6 +341,11 @@ fn are_distances(w: &Weighing) -> bool {
     is_arm(w.a) && (1..=ARM).contains(&i128::from(w.b))
 }
 
+/// Whether both ends are arms and in their order, as number 2 has it.
+fn are_ends(seat: &Seat) -> bool {
+    is_arm(seat.lower) && is_arm(seat.higher) && seat.lower <= seat.higher
+}
+
 /// Whether the sums after a change keep to number 6.
 fn is_total(sums: &Sums) -> bool {
     (HALVES..=HALVES * WEIGHT).contains(&sums.g)
@@ -371,6 +401,7 @@ impl Journal {
             Call::Pair(x) => self.add(self.weighing_number(&both(x)), Entry::Paired(*x)),
             Call::Install(s) => self.add(self.sheet_number(s), Entry::Sheet(*s)),
             Call::Change(c) => self.add(self.change_number(c), Entry::Change(*c)),
+            Call::Seat(s) => self.add(self.seat_number(s), Entry::Seat(*s)),
             Call::Undo => match self.entries.pop() {
                 Some(_) => ACCEPTED,
                 None => BARE,
@@ -456,6 +487,21 @@ impl Journal {
         ACCEPTED
     }
 
+    /// Order: "after 9, an entry with no sheet before it is 8; then ends out of range
+    /// or reversed are 2".
+    fn seat_number(&self, seat: &Seat) -> u64 {
+        if self.is_full() {
+            return FULL;
+        }
+        if self.sheet().is_none() {
+            return NO_SHEET;
+        }
+        if !are_ends(seat) {
+            return BAD_ARM;
+        }
+        ACCEPTED
+    }
+
     /// "G, M and n are those of the last weighing in the list and the changes
     /// behind it"; none where there is no weighing.
     pub(crate) fn sums(&self) -> Option<Sums> {
@@ -465,7 +511,7 @@ impl Journal {
                 Entry::Weighing(w) => sums = Some(weighed(&alike(w))),
                 Entry::Paired(x) => sums = Some(weighed(&both(x))),
                 Entry::Change(c) => sums = sums.map(|before| changed(before, c)),
-                Entry::Sheet(_) => {}
+                Entry::Sheet(_) | Entry::Seat(_) => {}
             }
         }
         sums
@@ -480,6 +526,28 @@ impl Journal {
             }
         }
         sheet
+    }
+
+    /// The seat in force: the last one in the list, unless a sheet stands behind it.
+    pub fn seat(&self) -> Option<Seat> {
+        let mut seat = None;
+        for entry in &self.entries {
+            match entry {
+                Entry::Sheet(_) => seat = None,
+                Entry::Seat(s) => seat = Some(*s),
+                _ => {}
+            }
+        }
+        seat
+    }
+
+    /// The ends that the arm of the front load lies between: those of the seat in
+    /// force, or the front arm of the sheet as both.
+    fn ends(&self, sheet: &Sheet) -> Seat {
+        self.seat().unwrap_or(Seat {
+            lower: sheet.front_arm,
+            higher: sheet.front_arm,
+        })
     }
 
     /// The empty centre of gravity; refused with 7 where nothing was weighed.
@@ -497,21 +565,20 @@ impl Journal {
 
 // ---- A row ----
 
-/// The lines of "A row" for one front load p, rear load r and water v aboard:
-/// "every other weight and weight limit is doubled" with G, M and n. With
+/// The lines of "A row" for one front load p at an arm, rear load r and water v
+/// aboard: "every other weight and weight limit is doubled" with G, M and n. With
 /// nobody in the seat the limits are not kept.
-fn keeps(sums: &Sums, sheet: &Sheet, p: i128, r: i128, v: i128) -> bool {
+fn keeps(sums: &Sums, sheet: &Sheet, arm: i128, p: i128, r: i128, v: i128) -> bool {
     let Sums { g, m, n } = *sums;
     let (p, r, v) = (HALVES * p, HALVES * r, HALVES * v);
     let dry = HALVES * i128::from(sheet.dry);
     let wet = HALVES * i128::from(sheet.wet);
     let nlp = HALVES * i128::from(sheet.nlp);
     let (fwd, aft) = (i128::from(sheet.fwd), i128::from(sheet.aft));
-    let front_arm = i128::from(sheet.front_arm);
     let rear_arm = i128::from(sheet.rear_arm);
     let water_arm = i128::from(sheet.water_arm);
     let t = g + p + r + v;
-    let s = m + p * front_arm + r * rear_arm + v * water_arm;
+    let s = m + p * arm + r * rear_arm + v * water_arm;
     p != 0
         && g + p + r <= dry
         && g + p + r + v <= wet
@@ -520,33 +587,66 @@ fn keeps(sums: &Sums, sheet: &Sheet, p: i128, r: i128, v: i128) -> bool {
         && 20 * s <= (19 * aft + fwd) * t
 }
 
-/// Every whole v from 0 to w, as the paper has it.
-fn keeps_with_every_water(sums: &Sums, sheet: &Sheet, p: i128, r: i128, w: i128) -> bool {
-    (0..=w).all(|v| keeps(sums, sheet, p, r, v))
+/// Every whole number from low to high, as the papers have it of the water and of
+/// the arms.
+fn every(low: i128, high: i128) -> Vec<i128> {
+    (low..=high).collect()
 }
 
-/// No water and all of it. Each line of the paper is linear in v for a fixed P:
-/// its two sides differ by an amount that changes evenly from 0 to w, so that it
-/// holds for every v between when it holds at both ends.
-fn keeps_at_both_ends(sums: &Sums, sheet: &Sheet, p: i128, r: i128, w: i128) -> bool {
-    keeps(sums, sheet, p, r, 0) && keeps(sums, sheet, p, r, w)
+/// The lowest and the highest. For a fixed P each line of the papers is linear in v,
+/// whatever the arm, and in the arm, whatever v: its two sides differ by an amount
+/// that changes evenly from end to end, so that it holds for all between when it
+/// holds at both ends.
+fn both_ends(low: i128, high: i128) -> Vec<i128> {
+    vec![low, high]
 }
 
-fn keeps_every_limit(sums: &Sums, sheet: &Sheet, p: i128, r: i128, w: i128) -> bool {
-    if w <= EVERY_GRAM {
-        keeps_with_every_water(sums, sheet, p, r, w)
+/// What is tried from low to high: every number where that is not too far.
+fn tried(low: i128, high: i128, far: i128) -> Vec<i128> {
+    if high - low <= far {
+        every(low, high)
     } else {
-        keeps_at_both_ends(sums, sheet, p, r, w)
+        both_ends(low, high)
     }
+}
+
+/// How many numbers that is.
+fn tries(low: i128, high: i128, far: i128) -> i128 {
+    if high - low <= far {
+        high - low + 1
+    } else {
+        2
+    }
+}
+
+/// The arms and the waters that a row tries.
+struct Tried {
+    arms: Vec<i128>,
+    waters: Vec<i128>,
+}
+
+impl Tried {
+    fn new(seat: &Seat, w: i128) -> Tried {
+        Tried {
+            arms: tried(seat.lower.into(), seat.higher.into(), EVERY_ARM),
+            waters: tried(0, w, EVERY_GRAM),
+        }
+    }
+}
+
+/// Whether a front load keeps the limits at each of the arms with each of the waters.
+fn keeps_every_limit(sums: &Sums, sheet: &Sheet, tried: &Tried, p: i128, r: i128) -> bool {
+    let keeps_with = |v| tried.arms.iter().all(|arm| keeps(sums, sheet, *arm, p, r, v));
+    tried.waters.iter().all(|v| keeps_with(*v))
 }
 
 /// The smallest and the largest front load that keeps every limit, found by
 /// trying each multiple of the front step from least to greatest.
-fn row(sums: &Sums, sheet: &Sheet, r: i128, w: i128) -> Option<(i128, i128)> {
+fn row(sums: &Sums, sheet: &Sheet, tried: &Tried, r: i128) -> Option<(i128, i128)> {
     let mut range = None;
     let mut p = 0;
     while p <= i128::from(sheet.front_most) {
-        if p >= i128::from(sheet.front_least) && keeps_every_limit(sums, sheet, p, r, w) {
+        if p >= i128::from(sheet.front_least) && keeps_every_limit(sums, sheet, tried, p, r) {
             let smallest = range.map_or(p, |(first, _)| first);
             range = Some((smallest, p));
         }
@@ -570,15 +670,21 @@ fn line(r: i128, w: i128, range: Option<(i128, i128)>) -> String {
     format!("{} {} {smallest} {largest}\n", kilograms(r), kilograms(w))
 }
 
-/// Tests of the limits that the placard of an accepted sheet takes at most.
+/// Tests of the limits that the placard of an accepted sheet takes at most, with one
+/// arm of the front load.
 pub(crate) fn sheet_work(sheet: &Sheet) -> u64 {
     let (rears, waters) = row_counts(sheet);
     let steps = i128::from(sheet.front_most) / i128::from(sheet.front_step) + 1;
     let tried: i128 = (0..waters)
         .map(|j| j * i128::from(sheet.water_step))
-        .map(|w| if w <= EVERY_GRAM { w + 1 } else { 2 })
+        .map(|w| tries(0, w, EVERY_GRAM))
         .sum();
     (rears * steps * tried) as u64
+}
+
+/// How many arms of an accepted seat are tried.
+pub(crate) fn seat_work(seat: &Seat) -> u64 {
+    tries(seat.lower.into(), seat.higher.into(), EVERY_ARM) as u64
 }
 
 impl Journal {
@@ -586,6 +692,7 @@ impl Journal {
     pub fn placard(&self, out: &mut [u8]) -> Result<Counts, u64> {
         let sums = self.sums().ok_or(UNWEIGHED)?;
         let sheet = self.sheet().ok_or(NO_SHEET)?;
+        let seat = self.ends(&sheet);
         let (rears, waters) = row_counts(&sheet);
         let rows = (rears * waters) as usize;
         if out.len() < rows * LINE {
@@ -596,7 +703,7 @@ impl Journal {
             for j in 0..waters {
                 let r = i * i128::from(sheet.rear_step);
                 let w = j * i128::from(sheet.water_step);
-                let range = row(&sums, &sheet, r, w);
+                let range = row(&sums, &sheet, &Tried::new(&seat, w), r);
                 out[at..at + LINE].copy_from_slice(line(r, w, range).as_bytes());
                 at += LINE;
                 blank += usize::from(range.is_none());
@@ -610,10 +717,10 @@ impl Journal {
     }
 
     /// About how many times [`Journal::placard`] would test the limits: rows
-    /// times steps times the waters tried. 0 where it would be refused.
+    /// times steps times the waters and the arms tried. 0 where it would be refused.
     pub fn placard_work(&self) -> u64 {
         match (self.sums(), self.sheet()) {
-            (Some(_), Some(sheet)) => sheet_work(&sheet),
+            (Some(_), Some(sheet)) => sheet_work(&sheet) * seat_work(&self.ends(&sheet)),
             _ => 0,
         }
     }
@@ -689,12 +796,18 @@ fn paired_bytes(x: &Paired) -> Vec<u8> {
     [&[4, x.m as u8], fields.as_flattened()].concat()
 }
 
+fn seat_bytes(seat: &Seat) -> Vec<u8> {
+    let fields = [signed(seat.lower), signed(seat.higher)];
+    [&[5], fields.as_flattened()].concat()
+}
+
 fn entry_bytes(entry: &Entry) -> Vec<u8> {
     match entry {
         Entry::Weighing(w) => weighing_bytes(w),
         Entry::Sheet(s) => sheet_bytes(s),
         Entry::Change(c) => change_bytes(c),
         Entry::Paired(x) => paired_bytes(x),
+        Entry::Seat(s) => seat_bytes(s),
     }
 }
 
@@ -731,6 +844,7 @@ impl Fields<'_> {
             2 => self.sheet().map(Call::Install),
             3 => self.change().map(Call::Change),
             4 if version == VERSION => self.paired().map(Call::Pair),
+            5 if version == VERSION => self.seat().map(Call::Seat),
             _ => None,
         }
     }
@@ -784,6 +898,13 @@ impl Fields<'_> {
             a: self.signed()?,
             b: self.unsigned()?,
             n: self.unsigned()?,
+        })
+    }
+
+    fn seat(&mut self) -> Option<Seat> {
+        Some(Seat {
+            lower: self.signed()?,
+            higher: self.signed()?,
         })
     }
 
@@ -896,22 +1017,67 @@ mod tests {
         (sums, sheet)
     }
 
-    #[test]
-    fn the_ends_of_the_water_decide() {
+    /// Small gliders with a seat of up to 80 arms about the sheet's, and a row: rear
+    /// load and water.
+    fn small_rows() -> impl Iterator<Item = (Sums, Sheet, [i128; 2], i128, i128)> {
         let mut dice = Dice(1);
-        let mut kept = [0, 0];
-        for _ in 0..600 {
+        (0..600).map(move |_| {
             let (sums, sheet) = small_glider(&mut dice);
-            let r = i128::from(dice.below(20));
-            let w = i128::from(dice.below(60));
+            let lower = i128::from(sheet.front_arm) - i128::from(dice.below(40));
+            let higher = lower + i128::from(dice.below(80));
+            let (r, w) = (dice.below(20), dice.below(60));
+            (sums, sheet, [lower, higher], r.into(), w.into())
+        })
+    }
+
+    #[test]
+    fn the_ends_of_water_and_seat_decide() {
+        let mut kept = [0, 0];
+        for (sums, sheet, [lower, higher], r, w) in small_rows() {
+            let all = Tried {
+                arms: every(lower, higher),
+                waters: every(0, w),
+            };
+            let ends = Tried {
+                arms: both_ends(lower, higher),
+                waters: both_ends(0, w),
+            };
             for p in 0..=i128::from(sheet.front_most) {
-                let every = keeps_with_every_water(&sums, &sheet, p, r, w);
-                let ends = keeps_at_both_ends(&sums, &sheet, p, r, w);
-                assert_eq!(every, ends, "{sums:?} {sheet:?} p {p} r {r} w {w}");
-                kept[usize::from(every)] += 1;
+                let keeps = keeps_every_limit(&sums, &sheet, &all, p, r);
+                let at_ends = keeps_every_limit(&sums, &sheet, &ends, p, r);
+                let of = format!("{sums:?} {sheet:?} {lower}..{higher} p {p} r {r} w {w}");
+                assert_eq!(keeps, at_ends, "{of}");
+                kept[usize::from(keeps)] += 1;
             }
         }
         assert!(kept[0] > 2_000 && kept[1] > 2_000, "{kept:?}");
+    }
+
+    /// Neither end would do alone, nor the arm in the middle.
+    #[test]
+    fn one_arm_of_a_seat_would_allow_more() {
+        let mut more = [0; 3];
+        for (sums, sheet, [lower, higher], r, w) in small_rows() {
+            let waters = || every(0, w);
+            let arms = every(lower, higher);
+            let all = Tried {
+                arms,
+                waters: waters(),
+            };
+            let alone = [lower, (lower + higher) / 2, higher].map(|arm| Tried {
+                arms: vec![arm],
+                waters: waters(),
+            });
+            for p in 0..=i128::from(sheet.front_most) {
+                let keeps = keeps_every_limit(&sums, &sheet, &all, p, r);
+                for (more, alone) in more.iter_mut().zip(&alone) {
+                    let keeps_alone = keeps_every_limit(&sums, &sheet, alone, p, r);
+                    assert!(keeps_alone || !keeps);
+                    *more += usize::from(keeps_alone && !keeps);
+                }
+            }
+        }
+        assert!(more.iter().all(|count| *count > 200), "{more:?}");
     }
 
     /// Case G, with what each front load would be allowed by a test.
@@ -945,8 +1111,14 @@ mod tests {
 
     #[test]
     fn a_full_tank_alone_would_begin_at_64_kg() {
-        let full = smallest_in_g(|sums, sheet, p| keeps(sums, sheet, p, 0, 50_000));
-        let every = smallest_in_g(|sums, sheet, p| keeps_every_limit(sums, sheet, p, 0, 50_000));
+        let arm = -47_500;
+        let seat = Seat {
+            lower: arm,
+            higher: arm,
+        };
+        let tried = Tried::new(&seat, 50_000);
+        let full = smallest_in_g(|sums, sheet, p| keeps(sums, sheet, arm.into(), p, 0, 50_000));
+        let every = smallest_in_g(|sums, sheet, p| keeps_every_limit(sums, sheet, &tried, p, 0));
         assert_eq!(full, Some(64_000));
         assert_eq!(every, Some(71_000));
     }

@@ -5,7 +5,7 @@
 use crate::direct;
 use crate::fast;
 use crate::generate::Case;
-use crate::paper::{Call, Centre, Change, Counts, Journal, Paired, Sheet, Weighing};
+use crate::paper::{Call, Centre, Change, Counts, Journal, Paired, Seat, Sheet, Weighing};
 use std::marker::PhantomData;
 
 /// A placard of more tests of the limits than this takes plain loops too long.
@@ -313,8 +313,8 @@ pub struct Plate {
     pub record: Vec<u8>,
 }
 
-/// A part, a weighing, the same read again and a sheet, to be put into a record
-/// that was found.
+/// A part, a weighing, the same read again, a sheet and a seat, to be put into a
+/// record that was found.
 const PART: Change = Change {
     c: 700,
     arm: -90_000,
@@ -356,17 +356,23 @@ const INSTALLED: Sheet = Sheet {
     water_step: 50_000,
 };
 
+const ADJUSTED: Seat = Seat {
+    lower: -55_000,
+    higher: -40_000,
+};
+
 /// Bytes behind a file that is lent as it is: room for the longest entry, and more.
 pub const BEHIND: usize = 90;
 
 /// What is called on a record that was found: each call as the first, so that it
 /// meets the file in the version that it was found in, and calls that are refused.
-static LATER: [&[Call]; 6] = [
+static LATER: [&[Call]; 7] = [
     &[Call::Change(PART), Call::Undo, Call::Undo],
     &[Call::Undo, Call::Pair(AGAIN)],
     &[Call::Pair(AGAIN), Call::Change(PART)],
     &[Call::Weigh(WEIGHED), Call::Undo],
     &[Call::Install(INSTALLED), Call::Undo],
+    &[Call::Seat(ADJUSTED), Call::Change(PART), Call::Undo],
     &[
         Call::Weigh(Weighing { m: 0, ..WEIGHED }),
         Call::Pair(Paired { p2: 0, ..AGAIN }),
@@ -375,6 +381,10 @@ static LATER: [&[Call]; 6] = [
             ..INSTALLED
         }),
         Call::Change(Change { c: 0, ..PART }),
+        Call::Seat(Seat {
+            lower: -39_999,
+            ..ADJUSTED
+        }),
         Call::Read(Vec::new()),
     ],
 ];

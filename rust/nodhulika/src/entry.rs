@@ -119,7 +119,7 @@ pub struct Sheet {
     pub wet: u64,
     /// The greatest non-lifting weight, 0..2,000,000 g; 0 is no limit.
     pub nlp: u64,
-    /// The front seat.
+    /// The front seat. Its arm holds until a [`Seat`] overrides it.
     pub front: Station,
     /// The least front load, in grams, at most the greatest. A load of 0 never
     /// keeps the limits: where this is 0 a row begins at the next step at the
@@ -151,6 +151,50 @@ impl Change {
     pub const LIFTING: u64 = 0;
     /// The flag of a non-lifting part.
     pub const NON_LIFTING: u64 = 1;
+}
+
+/// A front seat whose back can be adjusted: the arm of the front load is known only
+/// to lie between two ends.
+///
+/// It overrides the front arm of the data sheet before it until the next data sheet
+/// or seat. A front load then keeps the limits only where it does so at every arm
+/// between the ends, both included.
+///
+/// ```
+/// use nodhulika::{Record, Refusal, Seat, Sheet, Station, Weighing};
+///
+/// let mut record = Record::new();
+/// record.weigh(&Weighing {
+///     m: Weighing::WHEEL_AND_TAIL,
+///     p: 288_000,
+///     q: 0,
+///     a: 63_334,
+///     b: 500_000,
+///     n: 140_000,
+/// })?;
+/// record.install(&Sheet {
+///     fwd: 25_000,
+///     aft: 42_500,
+///     dry: 380_000,
+///     wet: 380_000,
+///     nlp: 0,
+///     front: Station { arm: -47_500, most: 110_000, step: 1_000 },
+///     front_least: 55_000,
+///     rear: Station { arm: 0, most: 0, step: 1 },
+///     water: Station { arm: 0, most: 0, step: 1 },
+/// })?;
+/// assert_eq!(record.placard_text()?, "0000.000 0000.000 0071.000 0092.000\n");
+///
+/// record.seat(&Seat { lower: -55_000, higher: -40_000 })?;
+/// assert_eq!(record.placard_text()?, "0000.000 0000.000 0077.000 0092.000\n");
+/// # Ok::<(), Refusal>(())
+/// ```
+#[derive(Clone, Copy, Debug, PartialEq, Eq, Hash)]
+pub struct Seat {
+    /// The lower end, as an arm, in hundredths of a millimetre.
+    pub lower: i64,
+    /// The higher end, as an arm, at least the lower one.
+    pub higher: i64,
 }
 
 /// A glider's empty total, moment and centre of gravity.

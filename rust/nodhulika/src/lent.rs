@@ -32,7 +32,7 @@
 //! ```
 
 use crate::sys::{self, ANSWER};
-use crate::{CentreOfGravity, Change, Counts, Paired, Refusal, Sheet, Weighing};
+use crate::{CentreOfGravity, Change, Counts, Paired, Refusal, Seat, Sheet, Weighing};
 
 /// Begins a fresh record, one with no entry, whatever the buffer holds.
 ///
@@ -106,6 +106,16 @@ pub fn change(buffer: &mut [u8], change: &Change) -> Result<(), Refusal> {
     outcome(sys::change(buffer, change))
 }
 
+/// Adds a seat whose back can be adjusted.
+///
+/// # Errors
+///
+/// [`Refusal::File`], [`Refusal::Full`], [`Refusal::NoSheet`], [`Refusal::Arm`],
+/// [`Refusal::Short`].
+pub fn seat(buffer: &mut [u8], seat: &Seat) -> Result<(), Refusal> {
+    outcome(sys::seat(buffer, seat))
+}
+
 /// Takes the last entry back. The entry's bytes stay, behind the shorter file.
 ///
 /// # Errors
@@ -153,8 +163,8 @@ pub fn centre(buffer: &[u8]) -> Result<CentreOfGravity, Refusal> {
 /// line of [`LINE`](crate::LINE) bytes: rear load, water, smallest and largest
 /// front load, each as four digits of kilograms, a point and three of grams, one
 /// space between and a line feed behind. The front loads are the ends of those
-/// that keep every limit with any part of the water aboard, 0 never among them;
-/// both are eight hyphens where there is none.
+/// that keep every limit with any part of the water aboard and at every arm of the
+/// front seat, 0 never among them; both are eight hyphens where there is none.
 ///
 /// # Errors
 ///

@@ -8,8 +8,8 @@
 //! # Records
 //!
 //! A record is the list of a glider's accepted entries, at most 64: weighings,
-//! plain and paired, data sheets and changes. [`Record`] owns one. [`lent`] has
-//! the same calls for records kept in memory of the caller's own.
+//! plain and paired, data sheets, changes and adjustable seats. [`Record`] owns one.
+//! [`lent`] has the same calls for records kept in memory of the caller's own.
 //!
 //! A call that is not accepted gives a [`Refusal`] and changes nothing: no byte
 //! of the record, and no byte of a buffer that was lent for the answer.
@@ -26,7 +26,7 @@
 //! # Files
 //!
 //! Files are written in version 2. Those of version 1, which has no paired
-//! weighings, are still read: a record is then written anew in version 2.
+//! weighings and no seats, are still read: a record is then written anew in version 2.
 //!
 //! # Example
 //!
@@ -75,7 +75,7 @@ mod refusal;
 #[allow(unsafe_code)]
 mod sys;
 
-pub use entry::{CentreOfGravity, Change, Counts, Paired, Sheet, Station, Weighing};
+pub use entry::{CentreOfGravity, Change, Counts, Paired, Seat, Sheet, Station, Weighing};
 pub use record::Record;
 pub use refusal::{Refusal, UnknownNumber};
 

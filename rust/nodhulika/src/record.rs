@@ -3,10 +3,10 @@
 use std::fmt;
 
 use crate::{lent, LONGEST_FILE, LONGEST_PLACARD};
-use crate::{CentreOfGravity, Change, Counts, Paired, Refusal, Sheet, Weighing};
+use crate::{CentreOfGravity, Change, Counts, Paired, Refusal, Seat, Sheet, Weighing};
 
-/// The record of a glider: its accepted weighings, plain and paired, data sheets
-/// and changes, at most 64, in order.
+/// The record of a glider: its accepted weighings, plain and paired, data sheets,
+/// changes and adjustable seats, at most 64, in order.
 ///
 /// Two records are equal when their files are. With each call stand its
 /// refusals, in the order in which they are looked for; a refusal leaves the
@@ -113,6 +113,16 @@ impl Record {
     /// [`Refusal::Change`], [`Refusal::NonLifting`].
     pub fn change(&mut self, change: &Change) -> Result<(), Refusal> {
         lent::change(&mut self.buffer[..], change)
+    }
+
+    /// Adds a seat whose back can be adjusted: its two ends override the front arm of
+    /// the data sheet until the next data sheet or seat.
+    ///
+    /// # Errors
+    ///
+    /// [`Refusal::Full`], [`Refusal::NoSheet`], [`Refusal::Arm`].
+    pub fn seat(&mut self, seat: &Seat) -> Result<(), Refusal> {
+        lent::seat(&mut self.buffer[..], seat)
     }
 
     /// Takes the last entry back.

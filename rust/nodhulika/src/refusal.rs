@@ -14,7 +14,8 @@ pub enum Refusal {
     /// The method is not 1..4, a reading is over 2,000,000 g, q is more than p
     /// in method 1 or 2, or G is not 1..2,000,000 g.
     Reading = 1,
-    /// An arm, or the distance a or b of a weighing, is outside its range.
+    /// An arm, or the distance a or b of a weighing, is outside its range, or the
+    /// ends of a seat are reversed.
     Arm = 2,
     /// n is not 0..G, as given or after the change.
     NonLifting = 3,
@@ -88,7 +89,7 @@ impl fmt::Display for Refusal {
     fn fmt(&self, f: &mut fmt::Formatter<'_>) -> fmt::Result {
         f.write_str(match self {
             Refusal::Reading => "a reading, the method or the total is out of range",
-            Refusal::Arm => "an arm or a distance is out of range",
+            Refusal::Arm => "an arm or a distance is out of range, or a seat's ends are reversed",
             Refusal::NonLifting => "the non-lifting weight is not between 0 and the total",
             Refusal::Sheet => "a range of the data sheet is broken",
             Refusal::Rows => "a step is out of range, or there are more than 256 rows",

@@ -10,7 +10,7 @@
 //!
 //! Each function here answers the library's number, 0 where it is accepted.
 
-use crate::{Change, Paired, Sheet, Weighing};
+use crate::{Change, Paired, Seat, Sheet, Weighing};
 
 /// Bytes of an answer: three numbers of eight bytes each.
 pub(crate) const ANSWER: usize = 24;
@@ -74,6 +74,9 @@ extern "C" {
 
     /// Sound with a `&mut` slice and any numbers, as `nodhulika_weigh`.
     fn nodhulika_change(buffer: *mut u8, buffer_length: usize, c: i64, arm: i64, flag: u64) -> u64;
+
+    /// Sound with a `&mut` slice and any numbers, as `nodhulika_weigh`.
+    fn nodhulika_seat(buffer: *mut u8, buffer_length: usize, lower: i64, higher: i64) -> u64;
 
     /// Sound with a `&mut` slice: writes only the header of a file that it has
     /// found whole within the length.
@@ -171,6 +174,11 @@ pub(crate) fn sheet(buffer: &mut [u8], s: &Sheet) -> u64 {
 pub(crate) fn change(buffer: &mut [u8], x: &Change) -> u64 {
     // SAFETY: pointer and length are those of one exclusive slice.
     unsafe { nodhulika_change(buffer.as_mut_ptr(), buffer.len(), x.c, x.arm, x.flag) }
+}
+
+pub(crate) fn seat(buffer: &mut [u8], s: &Seat) -> u64 {
+    // SAFETY: pointer and length are those of one exclusive slice.
+    unsafe { nodhulika_seat(buffer.as_mut_ptr(), buffer.len(), s.lower, s.higher) }
 }
 
 pub(crate) fn undo(buffer: &mut [u8]) -> u64 {

@@ -36,6 +36,12 @@ enum-known-e-4 c = search needs
 judge-paired-requires : tie.Need-judge-paired-requires
 judge-paired-requires c κs = search needs
 
+enum-known-e-5 : tie.Need-enum-known-e-5
+enum-known-e-5 c = search needs
+
+judge-seat-requires : tie.Need-judge-seat-requires
+judge-seat-requires c κs = search needs
+
 returns-2 : tie.Need-returns-2
 returns-2 c =
     let g = c .before .before .before .before .before .args in
@@ -58,6 +64,12 @@ returns-5 c =
     let g = c .before .before .before .before .before .args in
     rw (room-at (g .count) (plainly (g .standing)) (g .e) (c .before .before .before .before .if1 .left), c .before .before .e4 .given .1) (c .judge-paired .ensures (g .count))
 
+returns-6 : tie.Need-returns-6
+returns-6 c =
+    let s = c .before .before .before .before .before in
+    let g = s .args in
+    rw (room-at (g .count) (plainly (g .standing)) (g .e) (c .before .before .before .before .if1 .left), c .before .before .e5 .given .1) (c .judge-seat .ensures (g .count) (s .pre))
+
 pub judge-spec : {M : Type 1} → statement M
 judge-spec =
     tie.close
@@ -71,7 +83,10 @@ judge-spec =
     judge-change-requires
     enum-known-e-4
     judge-paired-requires
+    enum-known-e-5
+    judge-seat-requires
     returns-2
     returns-3
     returns-4
-    returns-5)
+    returns-5
+    returns-6)

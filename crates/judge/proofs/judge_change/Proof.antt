@@ -1,16 +1,17 @@
 -- `judge::judge_change` meets its contract: no weighing is 7; else by the balance that stands. Assumes nothing.
 use borrow.Author.Needs.{needs}
 use mathlib.Core.Path.{ap, sym, _∙_}
-use mathlib.Core.Option.{Option, some}
+use mathlib.Core.Option.{some}
 use native.Mathlib.Omega.{arith}
 use Rattle.paper.specs.Record as paper
 use Rattle.balance.specs.Balance.{Bounded}
+use Rattle.judge.specs.Standing.{Stands}
 use Rattle.judge.proofs.Judging.{grown-by, of-weighed, unweighed}
 use Rattle.judge.proofs.judge_change.Statement.{statement}
 use Rattle.judge.proofs.judge_change.Tie as tie
 
-enum-known-standing : tie.Need-enum-known-standing
-enum-known-standing c = search needs
+enum-known-last : tie.Need-enum-known-last
+enum-known-last c = search needs
 
 enum-told : tie.Need-enum-told
 enum-told c = search needs
@@ -21,15 +22,15 @@ returns c k h =
     (unweighed (c .before .before .args .x), omega (arith, unweighed (c .before .before .args .x)))
 
 -- the balance that stands has its bounds
-stands : (c : tie.After-known-told) → Bounded 1024 (c .before .standing .given .0 .0)
-stands c = let s = c .before .before .before in of-weighed 1024 (s .args .standing) _ (c .before .standing .given .1) (s .pre)
+stands : (c : tie.After-known-told) → Bounded 1024 (c .before .last .given .0 .0)
+stands c = let s = c .before .before .before in of-weighed 1024 (s .args .standing .weighed) _ (c .before .last .given .1) (s .pre)
 
 number-requires : tie.Need-number-requires
 number-requires c κs = stands c .ranged
 
 returns-2 : tie.Need-returns-2
 returns-2 c k h =
-    rw (c .before .before .before .standing .given .1) (c .before .number .ensures, omega (arith, c .before .number .ensures, c .if1 .taken))
+    rw (c .before .before .before .last .given .1) (c .before .number .ensures, omega (arith, c .before .number .ensures, c .if1 .taken))
 
 changed-requires : tie.Need-changed-requires
 changed-requires c κs =
@@ -38,12 +39,13 @@ changed-requires c κs =
 
 returns-3 : tie.Need-returns-3
 returns-3 c k h =
-    let e = c .before .before .before .before .standing .given .1 in
-    let t = of-weighed k (c .before .before .before .before .before .before .args .standing) _ e h in
+    let e = c .before .before .before .before .last .given .1 in
+    let standing = c .before .before .before .before .before .before .args .standing in
+    let t = of-weighed k (standing .weighed) _ e h in
     let r = c .changed .ensures in
     rw e (
       sym (c .before .before .number .ensures) ∙ c .before .if1 .left,
-      ap {B = Option paper.Balance} some (r .0),
+      ap {B = Stands} (λ (b : paper.Balance). record { balance = some b; sheet = standing .sheet }) (r .0),
       grown-by k _ _ t (r .1) (r .2) (r .3),
     )
 
@@ -51,7 +53,7 @@ pub judge-change-spec : {M : Type 1} → statement M
 judge-change-spec =
     tie.close
     (tie.spec
-    enum-known-standing
+    enum-known-last
     enum-told
     returns
     number-requires

@@ -1,11 +1,12 @@
 -- `judge::judge_paired` meets its contract: the number, or the balance with its bounds. Assumes nothing.
 use borrow.Author.Needs.{needs}
 use mathlib.Core.Path.{ap, sym, _∙_}
-use mathlib.Core.Option.{Option, some}
+use mathlib.Core.Option.{some}
 use native.Mathlib.Omega.{arith}
 use Rattle.paper.specs.Record as paper
-use Rattle.judge.specs.declared.Standing.the-variants.{Weighed}
-use Rattle.judge.proofs.Judging.{grown}
+use Rattle.judge.specs.declared.Weighed.the-variants as weighed
+use Rattle.judge.specs.Standing.{Stands}
+use Rattle.judge.proofs.Judging.{grown-balance}
 use Rattle.judge.proofs.judge_paired.Statement.{statement}
 use Rattle.judge.proofs.judge_paired.Tie as tie
 
@@ -21,8 +22,8 @@ paired-requires c κs = search needs
 returns-2 : tie.Need-returns-2
 returns-2 c k = (
   sym (c .before .before .paired-number .ensures) ∙ c .before .if1 .left,
-  ap {B = Option paper.Balance} some (c .paired .ensures .0),
-  grown 1 _ (Weighed (c .paired .result)) (omega arith) (c .paired .ensures .1),
+  ap {B = Stands} (λ (b : paper.Balance). record { balance = some b; sheet = c .before .before .before .args .sheet }) (c .paired .ensures .0),
+  grown-balance 1 _ (weighed.Balance (c .paired .result)) (omega arith) (c .paired .ensures .1),
 )
 
 pub judge-paired-spec : {M : Type 1} → statement M

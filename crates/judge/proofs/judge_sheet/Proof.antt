@@ -1,4 +1,4 @@
--- `judge::judge_sheet` meets its contract: the number, or what stood before. Assumes nothing.
+-- `judge::judge_sheet` meets its contract: the number, or what stood before, with a sheet. Assumes nothing.
 use borrow.Author.Needs.{needs}
 use mathlib.Core.Path.{refl, sym, _∙_}
 use native.Mathlib.Omega.{arith}

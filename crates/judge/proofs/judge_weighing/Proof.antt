@@ -1,11 +1,12 @@
 -- `judge::judge_weighing` meets its contract: the number, or the balance with its bounds. Assumes nothing.
 use borrow.Author.Needs.{needs}
 use mathlib.Core.Path.{ap, sym, _∙_}
-use mathlib.Core.Option.{Option, some}
+use mathlib.Core.Option.{some}
 use native.Mathlib.Omega.{arith}
 use Rattle.paper.specs.Record as paper
-use Rattle.judge.specs.declared.Standing.the-variants.{Weighed}
-use Rattle.judge.proofs.Judging.{grown}
+use Rattle.judge.specs.declared.Weighed.the-variants as weighed
+use Rattle.judge.specs.Standing.{Stands}
+use Rattle.judge.proofs.Judging.{grown-balance}
 use Rattle.judge.proofs.judge_weighing.Statement.{statement}
 use Rattle.judge.proofs.judge_weighing.Tie as tie
 
@@ -21,8 +22,8 @@ weighed-requires c κs = search needs
 returns-2 : tie.Need-returns-2
 returns-2 c k = (
   sym (c .before .before .number .ensures) ∙ c .before .if1 .left,
-  ap {B = Option paper.Balance} some (c .weighed .ensures .0),
-  grown 1 _ (Weighed (c .weighed .result)) (omega arith) (c .weighed .ensures .1),
+  ap {B = Stands} (λ (b : paper.Balance). record { balance = some b; sheet = c .before .before .before .args .sheet }) (c .weighed .ensures .0),
+  grown-balance 1 _ (weighed.Balance (c .weighed .result)) (omega arith) (c .weighed .ensures .1),
 )
 
 pub judge-weighing-spec : {M : Type 1} → statement M

@@ -33,6 +33,12 @@ enum-known-e-4 c = search needs
 paired-number-requires : tie.Need-paired-number-requires
 paired-number-requires c κs = search needs
 
+enum-known-e-5 : tie.Need-enum-known-e-5
+enum-known-e-5 c = search needs
+
+seat-number-requires : tie.Need-seat-number-requires
+seat-number-requires c κs = search needs
+
 returns-2 : tie.Need-returns-2
 returns-2 c =
     let g = c .before .before .before .before .before .args in
@@ -53,6 +59,11 @@ returns-5 c =
     let g = c .before .before .before .before .before .args in
     rw (room-at (g .count) (plainly (g .standing)) (g .e) (c .before .before .before .before .if1 .left), c .before .before .e4 .given .1) (c .paired-number .ensures)
 
+returns-6 : tie.Need-returns-6
+returns-6 c =
+    let g = c .before .before .before .before .before .args in
+    rw (room-at (g .count) (plainly (g .standing)) (g .e) (c .before .before .before .before .if1 .left), c .before .before .e5 .given .1) (c .seat-number .ensures)
+
 pub number-spec : {M : Type 1} → statement M
 number-spec =
     tie.close
@@ -66,7 +77,10 @@ number-spec =
     change-number-requires
     enum-known-e-4
     paired-number-requires
+    enum-known-e-5
+    seat-number-requires
     returns-2
     returns-3
     returns-4
-    returns-5)
+    returns-5
+    returns-6)

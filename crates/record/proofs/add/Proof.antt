@@ -31,8 +31,8 @@ within c =
     let says = rw (c .before .enum-told .given .1) at (c .before .before .before .judge .ensures) in
     room-of _ _ (c .before .before .before .before .before .args .e) (says .0)
 
-mul-t11 : tie.Need-mul-t11
-mul-t11 c = omega (arith, within c)
+mul-t10 : tie.Need-mul-t10
+mul-t10 c = omega (arith, within c)
 
 element-set-from-next : tie.Need-element-set-from-next
 element-set-from-next c = omega (arith, within c)
@@ -67,7 +67,7 @@ add-spec =
     judge-requires
     enum-known-number
     enum-told
-    mul-t11
+    mul-t10
     element-set-from-next
     add-next
     returns

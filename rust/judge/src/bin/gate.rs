@@ -10,7 +10,7 @@
 //! |---|---|
 //! | `Fresh N` | a case begins: a buffer of N bytes, all AA, and a fresh record at its front |
 //! | `Lent HEX` | these bytes at the front of the buffer, as they are: no call, and no answer |
-//! | `weighing`, `paired`, `sheet`, `change`, `undo` | the call, with its numbers as in a logbook |
+//! | `weighing`, `paired`, `sheet`, `change`, `seat`, `undo` | the call, with its numbers as in a logbook |
 //! | `Read HEX` | reading back these bytes; none where nothing stands behind `Read ` |
 //! | `Check` | whether a record stands |
 //! | `Centre` | the centre of gravity |
@@ -43,7 +43,7 @@
 #![forbid(unsafe_code)]
 
 use judge::generate::{case, Case};
-use judge::paper::{Call, Centre, Change, Counts, Paired, Sheet, Weighing};
+use judge::paper::{Call, Centre, Change, Counts, Paired, Seat, Sheet, Weighing};
 use judge::run::{later, Answers, Paper, Plate, Trial, BEHIND};
 use std::collections::BTreeMap;
 use std::path::Path;
@@ -119,6 +119,10 @@ fn cut_call(call: Call) -> Call {
             arm: cut_signed(change.arm),
             flag: cut(change.flag),
         }),
+        Call::Seat(seat) => Call::Seat(Seat {
+            lower: cut_signed(seat.lower),
+            higher: cut_signed(seat.higher),
+        }),
         Call::Undo | Call::Read(_) => call,
     }
 }
@@ -164,6 +168,7 @@ fn call_line(call: &Call) -> String {
         }
         Call::Install(s) => sheet_line(s),
         Call::Change(Change { c, arm, flag }) => format!("change {c} {arm} {flag}"),
+        Call::Seat(Seat { lower, higher }) => format!("seat {lower} {higher}"),
         Call::Undo => "undo".to_string(),
         Call::Read(bytes) => format!("Read {}", hex(bytes)),
     }
@@ -353,8 +358,9 @@ struct Summary {
     numbers: [[usize; 4]; 13],
     /// Cases of 60 calls and more.
     many_calls: usize,
-    /// Paired weighings accepted and refused.
+    /// Paired weighings accepted and refused, and seats.
     pairs: [usize; 2],
+    seats: [usize; 2],
     /// Full records read back.
     full_files: usize,
     /// Records of version 1 read back.
@@ -378,6 +384,7 @@ impl Summary {
         for (call, number) in stored.calls.iter().zip(&answers.numbers) {
             match call {
                 Call::Pair(_) => self.pairs[usize::from(*number != 0)] += 1,
+                Call::Seat(_) => self.seats[usize::from(*number != 0)] += 1,
                 Call::Read(file) if *number == 0 => {
                     self.full_files += usize::from(file[COUNT] == FULL);
                     self.old_files += usize::from(file[VERSION] == OLD);
@@ -399,6 +406,8 @@ impl Summary {
         println!("cases of 60 calls and more: {}", self.many_calls);
         let [accepted, refused] = self.pairs;
         println!("paired weighings: {accepted} accepted, {refused} refused");
+        let [accepted, refused] = self.seats;
+        println!("seats: {accepted} accepted, {refused} refused");
         println!("full records read back: {}", self.full_files);
         println!("records of version 1 read back: {}", self.old_files);
         let (lent, old) = (self.lent, self.old_lent);
@@ -551,5 +560,8 @@ mod tests {
         let line = call_line(&cut_call(Call::Change(Change { c, arm, flag })));
         let nines = "9".repeat(18);
         assert_eq!(line, format!("change -{nines} {nines} {nines}"));
+        let (lower, higher) = (i64::MIN, i64::MAX);
+        let line = call_line(&cut_call(Call::Seat(Seat { lower, higher })));
+        assert_eq!(line, format!("seat -{nines} {nines}"));
     }
 }

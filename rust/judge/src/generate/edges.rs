@@ -3,7 +3,7 @@
 use super::glider::{lighten, Glider};
 use super::random::Random;
 use super::{ARM, HALVES, LOAD, TOP, WEIGHT};
-use crate::paper::{Call, Change, Journal, Paired, Sheet, Weighing};
+use crate::paper::{Call, Change, Journal, Paired, Seat, Sheet, Weighing};
 
 /// A value on an edge of a range, one beyond, or far out. `good` plus 2^32 looks
 /// like `good` where it is cut to four bytes.
@@ -272,6 +272,20 @@ fn edge_after_change(random: &mut Random, journal: &Journal, change: Change) -> 
     Change { c, flag, ..change }
 }
 
+/// One end of a seat at an edge, or the ends against each other: reversed, equal or
+/// one apart.
+pub(super) fn edge_seat(random: &mut Random, mut seat: Seat) -> Seat {
+    let Seat { lower, higher } = seat;
+    match random.below(7) {
+        0 | 1 => seat.lower = signed_edge(random, ARM, lower),
+        2 | 3 => seat.higher = signed_edge(random, ARM, higher),
+        4 => (seat.lower, seat.higher) = (higher, lower),
+        5 => seat.lower = higher.wrapping_add(random.between(-1, 1)),
+        _ => seat.higher = lower.wrapping_add(random.between(-1, 1)),
+    }
+    seat
+}
+
 fn edge_pair_call(random: &mut Random, glider: &Glider) -> Call {
     let x = glider.pair(random);
     Call::Pair(match random.below(5) {
@@ -306,6 +320,11 @@ fn edge_change_call(random: &mut Random, glider: &Glider, journal: &Journal) -> 
     })
 }
 
+fn edge_seat_call(random: &mut Random, glider: &Glider) -> Call {
+    let seat = glider.any_seat(random);
+    Call::Seat(edge_seat(random, seat))
+}
+
 /// Sets a second field to an edge, so that the order of the numbers shows.
 fn second_edge(random: &mut Random, call: Call) -> Call {
     match call {
@@ -313,16 +332,18 @@ fn second_edge(random: &mut Random, call: Call) -> Call {
         Call::Pair(x) => Call::Pair(edge_pair(random, x)),
         Call::Install(s) => Call::Install(edge_sheet(random, s)),
         Call::Change(c) => Call::Change(edge_change(random, c)),
+        Call::Seat(s) => Call::Seat(edge_seat(random, s)),
         other => other,
     }
 }
 
 /// A call that is good but for one field at an edge, seldom for two.
 pub(super) fn edge_call(random: &mut Random, glider: &Glider, journal: &Journal) -> Call {
-    let call = match random.below(4) {
+    let call = match random.below(5) {
         0 => edge_weigh_call(random, glider),
         1 => edge_pair_call(random, glider),
         2 => edge_install_call(random, glider),
+        3 => edge_seat_call(random, glider),
         _ => edge_change_call(random, glider, journal),
     };
     if random.one_in(5) {

@@ -1,6 +1,6 @@
 //! Files with something wrong in them, or something that may be wrong.
 
-use super::edges::{edge_change, edge_pair, edge_sheet, edge_weighing};
+use super::edges::{edge_change, edge_pair, edge_seat, edge_sheet, edge_weighing};
 use super::glider::any_glider;
 use super::random::Random;
 use crate::paper::{Entry, Journal, Paired, Sheet, Weighing};
@@ -20,23 +20,25 @@ fn entry_places(journal: &Journal) -> Vec<usize> {
             Entry::Sheet(_) => 61,
             Entry::Change(_) => 10,
             Entry::Paired(_) => 30,
+            Entry::Seat(_) => 9,
         };
     }
     places
 }
 
-/// An entry that version 1 has: of a pair the first reading.
-fn plain(entry: &Entry) -> Entry {
+/// An entry that version 1 has: of a pair the first reading, of a seat none.
+fn plain(entry: &Entry) -> Option<Entry> {
     match *entry {
         Entry::Paired(Paired {
             m, p, q, a, b, n, ..
-        }) => Entry::Weighing(Weighing { m, p, q, a, b, n }),
-        other => other,
+        }) => Some(Entry::Weighing(Weighing { m, p, q, a, b, n })),
+        Entry::Seat(_) => None,
+        other => Some(other),
     }
 }
 
-/// A journal and a version to lay it out in. Version 1 has no pairs; seldom they
-/// stand in it all the same.
+/// A journal and a version to lay it out in. Version 1 has no pairs and no seats;
+/// seldom they stand in it all the same.
 fn laid_out(random: &mut Random, journal: &Journal) -> (Journal, u8) {
     if random.one_in(2) {
         return (journal.clone(), NEW);
@@ -44,7 +46,7 @@ fn laid_out(random: &mut Random, journal: &Journal) -> (Journal, u8) {
     let entries = if random.one_in(5) {
         journal.entries.clone()
     } else {
-        journal.entries.iter().map(plain).collect()
+        journal.entries.iter().filter_map(plain).collect()
     };
     (Journal { entries }, OLD)
 }
@@ -91,7 +93,7 @@ fn wrong_count(random: &mut Random, file: &mut [u8]) {
 fn wrong_kind(random: &mut Random, journal: &Journal, file: &mut [u8]) {
     let places = entry_places(journal);
     if !places.is_empty() {
-        file[random.pick(&places)] = random.pick(&[0, 5, 255, 1, 2, 3, 4]);
+        file[random.pick(&places)] = random.pick(&[0, 6, 255, 1, 2, 3, 4, 5]);
     }
 }
 
@@ -100,8 +102,8 @@ fn wrong_end(random: &mut Random, file: &mut Vec<u8>) {
     if random.one_in(2) {
         file.truncate(random.below(file.len() as u64) as usize);
     } else {
-        for _ in 0..random.pick(&[1, 1, 1, 10, 22, 30]) {
-            file.push(random.pick(&[0, 1, 3, 4, 255]));
+        for _ in 0..random.pick(&[1, 1, 1, 9, 10, 22, 30]) {
+            file.push(random.pick(&[0, 1, 3, 4, 5, 255]));
         }
     }
     if random.one_in(2) {
@@ -119,12 +121,13 @@ fn wrong_byte(random: &mut Random, file: &mut [u8]) {
 }
 
 /// An entry that its call refuses, laid out as if it had been accepted: a change
-/// with nothing weighed, n over G, too many rows, or a field at an edge.
+/// with nothing weighed, n over G, too many rows, a seat before every sheet, or a
+/// field at an edge.
 fn refused_entry(random: &mut Random, mut journal: Journal) -> Journal {
     let glider = any_glider(random);
     let (w, s, c) = (glider.weigh(random), glider.sheet, glider.part(random));
     let mut at = random.below(journal.entries.len() as u64 + 1) as usize;
-    let entry = match random.below(8) {
+    let entry = match random.below(11) {
         0 => {
             at = 0;
             Entry::Change(c)
@@ -148,6 +151,14 @@ fn refused_entry(random: &mut Random, mut journal: Journal) -> Journal {
             let pair = glider.pair(random);
             Entry::Paired(edge_pair(random, pair))
         }
+        7 => {
+            at = 0;
+            Entry::Seat(glider.any_seat(random))
+        }
+        8 | 9 => {
+            let seat = glider.any_seat(random);
+            Entry::Seat(edge_seat(random, seat))
+        }
         _ => Entry::Change(edge_change(random, c)),
     };
     journal.entries.insert(at, entry);
@@ -158,14 +169,17 @@ fn refused_entry(random: &mut Random, mut journal: Journal) -> Journal {
 fn too_many(random: &mut Random) -> Journal {
     let glider = any_glider(random);
     let mut entries = vec![Entry::Weighing(glider.weigh(random))];
-    entries.resize(random.pick(&[64, 65, 65, 66]), Entry::Sheet(glider.sheet));
+    entries.resize(random.pick(&[2, 63, 64, 64]), Entry::Sheet(glider.sheet));
+    let seat = glider.any_seat(random);
+    let last = random.pick(&[Entry::Sheet(glider.sheet), Entry::Seat(seat)]);
+    entries.resize(random.pick(&[64, 65, 65, 66]), last);
     Journal { entries }
 }
 
 /// Bytes that never were a file.
 fn stray_bytes(random: &mut Random) -> Vec<u8> {
     let length = random.pick(&[0, 1, 3, 4, 5, 6, 7, 16, 40, 3_910, 3_911]);
-    let limit = random.pick(&[1, 4, 256]);
+    let limit = random.pick(&[1, 4, 6, 256]);
     (0..length).map(|_| random.below(limit) as u8).collect()
 }
 

@@ -2,11 +2,11 @@
 
 use super::random::Random;
 use super::{ARM, HALVES, LOAD, TOP, WEIGHT};
-use crate::paper::{sheet_work, Call, Change, Paired, Sheet, Weighing};
+use crate::paper::{sheet_work, Call, Change, Paired, Seat, Sheet, Weighing};
 
 /// Tests of the limits that plain loops may take for a placard; one sheet in
 /// fifty is left as it is and may take more.
-const WORK: u64 = 200_000;
+pub(super) const WORK: u64 = 200_000;
 
 /// A glider before it is weighed. Where total and moment are odd it takes two
 /// readings to weigh it exactly.
@@ -20,6 +20,8 @@ pub(super) struct Glider {
     pub(super) n: i64,
     /// Data sheet.
     pub(super) sheet: Sheet,
+    /// Seat, where its back can be adjusted.
+    pub(super) seat: Option<Seat>,
 }
 
 /// Front load, rear load and water.
@@ -38,6 +40,7 @@ impl Glider {
             moment: 0,
             n: n as i64,
             sheet,
+            seat: None,
         }
     }
 
@@ -46,25 +49,34 @@ impl Glider {
         self.g / HALVES
     }
 
+    /// The ends of its seat, or the front arm of its sheet as both.
+    pub(super) fn ends(&self) -> Seat {
+        self.seat.unwrap_or(Seat {
+            lower: self.sheet.front_arm,
+            higher: self.sheet.front_arm,
+        })
+    }
+
     /// The weight with these loads, and the moment of the loads alone, both in
-    /// half grams.
-    fn loaded(&self, loads: Loads) -> (i64, i64) {
+    /// half grams, with the front load at an arm.
+    fn loaded(&self, arm: i64, loads: Loads) -> (i64, i64) {
         let Loads { p, r, v } = loads;
         let s = &self.sheet;
-        let moment = p * s.front_arm + r * s.rear_arm + v * s.water_arm;
+        let moment = p * arm + r * s.rear_arm + v * s.water_arm;
         (self.g + HALVES * (p + r + v), HALVES * moment)
     }
 
     /// Gives the glider the moment with which these loads stand `inside` units
-    /// of moment inside the forward limit.
+    /// of moment inside the forward limit, at the lower end of its seat.
     fn meet_forward(&mut self, loads: Loads, inside: i64) {
-        let (total, moment) = self.loaded(loads);
+        let (total, moment) = self.loaded(self.ends().lower, loads);
         self.moment = self.sheet.fwd * total - moment + inside;
     }
 
-    /// The same for the safe aft limit, as near as whole moments come to it.
+    /// The same for the safe aft limit, as near as whole moments come to it, at the
+    /// higher end.
     fn meet_aft(&mut self, loads: Loads, inside: i64) {
-        let (total, moment) = self.loaded(loads);
+        let (total, moment) = self.loaded(self.ends().higher, loads);
         let safe = 19 * self.sheet.aft + self.sheet.fwd;
         self.moment = (safe * total).div_euclid(20) - moment - inside;
     }
@@ -89,7 +101,7 @@ impl Glider {
         let safe = 19 * self.sheet.aft + self.sheet.fwd;
         let (twentieths, inside) = random.pick(&[(0, 0), (1, 0), (19, -1)]);
         for _ in 0..20 {
-            let (total, _) = self.loaded(loads);
+            let (total, _) = self.loaded(self.ends().higher, loads);
             if (safe * total).rem_euclid(20) == twentieths {
                 break;
             }
@@ -128,15 +140,20 @@ impl Glider {
         s.front_arm += by;
         s.rear_arm += by;
         s.water_arm += by;
+        if let Some(seat) = &mut self.seat {
+            seat.lower += by;
+            seat.higher += by;
+        }
         self.moment += self.g * by;
     }
 
     /// How far the datum can move ahead and back with all arms in range, those
     /// of a weighing among them.
     pub(super) fn datum_range(&self) -> (i64, i64) {
-        let s = &self.sheet;
-        let centre = self.moment.div_euclid(self.g);
-        let (mut low, mut high) = (centre, centre + 1);
+        let (s, seat) = (&self.sheet, self.ends());
+        // A wide seat can ask for a centre that no weighing gives.
+        let centre = self.moment.div_euclid(self.g).clamp(-ARM, ARM - 1);
+        let (mut low, mut high) = (centre.min(seat.lower), seat.higher.max(centre + 1));
         for arm in [s.fwd, s.aft, s.front_arm, s.rear_arm, s.water_arm] {
             low = low.min(arm);
             high = high.max(arm);
@@ -144,7 +161,8 @@ impl Glider {
         (-ARM - low, ARM - high)
     }
 
-    /// Its weighing, plain or paired, and its sheet, in either order.
+    /// Its weighing, plain or paired, and its sheet, in either order, and its seat
+    /// behind them.
     pub(super) fn record(&self, random: &mut Random) -> Vec<Call> {
         let weighing = if random.one_in(3) {
             self.weigh_exactly(random)
@@ -163,6 +181,7 @@ impl Glider {
     fn with_sheet(&self, random: &mut Random, weighing: Call) -> Vec<Call> {
         let mut calls = vec![weighing, Call::Install(self.sheet)];
         calls.rotate_left(random.below(2) as usize);
+        calls.extend(self.seat.map(Call::Seat));
         calls
     }
 
@@ -513,6 +532,7 @@ const CASE_G: Glider = Glider {
         capacity: 100_000,
         water_step: 50_000,
     },
+    seat: None,
 };
 
 /// Case J of the paper: a two-seater.
@@ -537,6 +557,7 @@ const CASE_J: Glider = Glider {
         capacity: 0,
         water_step: 1,
     },
+    seat: None,
 };
 
 /// The paper's own gliders, or near to them.

@@ -1,7 +1,7 @@
 //! The proved library by its safe calls on lent buffers, for the programs that
 //! compare and time it.
 
-use judge::paper::{Call, Centre, Change, Counts, Paired, Sheet, Weighing};
+use judge::paper::{Call, Centre, Change, Counts, Paired, Seat, Sheet, Weighing};
 use judge::run::Calls;
 use nodhulika::{lent, Refusal, Station};
 
@@ -23,6 +23,7 @@ impl Calls for Library {
             Call::Pair(x) => lent::weigh_paired(buffer, &paired(x)),
             Call::Install(s) => lent::sheet(buffer, &sheet(s)),
             Call::Change(c) => lent::change(buffer, &change(c)),
+            Call::Seat(s) => lent::seat(buffer, &seat(s)),
             Call::Undo => lent::undo(buffer),
             Call::Read(file) => lent::read(buffer, file),
         })
@@ -87,4 +88,9 @@ fn sheet(s: &Sheet) -> nodhulika::Sheet {
 fn change(change: &Change) -> nodhulika::Change {
     let Change { c, arm, flag } = *change;
     nodhulika::Change { c, arm, flag }
+}
+
+fn seat(seat: &Seat) -> nodhulika::Seat {
+    let Seat { lower, higher } = *seat;
+    nodhulika::Seat { lower, higher }
 }
