@@ -226,7 +226,7 @@ uint64_t nodhulika_change(uint8_t *buffer, size_t buffer_length,
                           int64_t c, int64_t arm, uint64_t flag);
 
 /*
- * Adds a front seat to the record whose back can be adjusted: the arm of the
+ * Adds to the record a front seat whose back can be adjusted: the arm of the
  * front load is known only to lie between two ends. They override the front_arm
  * of the data sheet before them until the next data sheet or seat. A front load
  * then keeps the limits only where it does so at every arm between the ends, both

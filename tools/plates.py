@@ -709,9 +709,9 @@ def seat_arms():
 def seat_edges():
     """Ends on a limit and one beside it, with the glider on a limit or one inside."""
     s = lax(fwd=10000, aft=30000)
-    for centre in (10000, 10001, 28999, 29000):
-        for lower, higher in ((9999, 29000), (10000, 29001), (9999, 29001), (10000, 29000), (10001, 28999)):
-            seat_case(f"centre {centre}", level(a=centre), s, Seat(lower, higher))
+    for f in ((9999, 29000), (10000, 29001), (9999, 29001), (10000, 29000), (10001, 28999)):
+        for centre in (10000, 10001, 28999, 29000):
+            seat_case(f"centre {centre}", level(a=centre), s, Seat(*f))
 
 
 def seat_limits_met():

@@ -5,7 +5,7 @@ use Prim.Native.Nat.{ℕ, _+_, _*_, _≤_}
 use native.Mathlib.Omega.{arith}
 use lib.IntN.{ℤ, pos, _+ℤ_, _*ℤ_}
 use Rattle.laws.specs.declared.Sides.{Sides}
-use Rattle.laws.specs.Z.{Is, is-nat, is-int, is-add, is-sub, is-mul, same}
+use Rattle.laws.specs.Z.{Is, is-nat, is-int, is-add, is-sub, is-mul, same, SidesOf}
 use Rattle.paper.specs.declared.Sheet.{Sheet}
 use Rattle.paper.specs.Units.{halfGrams}
 use Rattle.paper.specs.Record.{Balance}
@@ -13,7 +13,11 @@ use Rattle.paper.specs.Rows.{totalBeside, momentBeside}
 use Rattle.planes.proofs.Lines.{half-is, turned-is, beside-more-total, beside-more-moment}
 use Rattle.aboard.specs.declared.Arms.{Arms}
 use Rattle.aboard.specs.declared.Laden.{Laden}
-use Rattle.aboard.specs.Aboard.{valueOf, sumOf, timesOf, safeOf, safeArm, ArmsOf, laidOut, plus, scaled, Stands, Beside, LoadOf, Room, Share}
+use Rattle.aboard.specs.Aboard.{Below, valueOf, sumOf, timesOf, safeOf, safeArm, ArmsOf, laidOut, plus, scaled, Stands, Beside, LoadOf, Room, Share}
+
+-- a number's sides as `split` gives them are in an arm's range
+pub in-range : {z : ℤ} {x : Sides} → SidesOf z (x .up) (x .down) → Below 2000000 x
+in-range h = record { up = h .high; down = h .low }
 
 -- a number by its sides
 pub is-value : (x : Sides) → Is (valueOf x) (x .up) (x .down)

@@ -8,12 +8,13 @@ use native.Mathlib.Numerals.{add-one}
 use native.Mathlib.Omega.{arith}
 use lib.ListN.{length, getD, drop, replicate, length-drop, drop-of-length-le}
 use lib.Seq.{drop-cons}
-use borrow.Author.Tests.{le-leb, lt-leb, ne-eqb}
+use borrow.Author.Tests.{le-leb, lt-leb}
 use Rattle.paper.specs.declared.Entry.{Entry}
 use Rattle.paper.specs.File.{Field, fieldValue, layoutOf, theFields, takeEntry}
 use Rattle.format.specs.Fields.{widths, total, numbersFrom, valuesBy, take-fields, numbers-length, widths-length}
 use Rattle.format.specs.Rows.{fieldsAt}
 use Rattle.layout.specs.Table.{padded, entryWith}
+use Rattle.layout.proofs.Rows.{no-row}
 use Rattle.entries.specs.declared.Walk.the-variants.{Got, Nothing}
 use Rattle.entries.specs.declared.Walk.{Walk}
 use Rattle.fields.specs.Words.{wordsAt}
@@ -75,9 +76,8 @@ pub kind-got : (s : List ℕ) (at k : ℕ) (x : Walk) → at < length s → getD
 kind-got s at k x h e l w =
     w ∙ ap (λ (j : ℕ). fieldsWalk j s (at + 1)) (sym e) ∙ kind-here s at h (fieldsAt k) (ap layoutOf e ∙ l)
 
-pub no-kind-got : (s : List ℕ) (at k : ℕ) → at < length s → getD s at 0 ≡ k → (k ≡ 1 → ⊥) → (k ≡ 2 → ⊥) → (k ≡ 3 → ⊥) → (k ≡ 4 → ⊥) → Nothing ≡ walkAt s at
-unfolding layoutOf
-no-kind-got s at k h e a b c d = no-row-here s at h (ap layoutOf e ∙ rw (ne-eqb k 1 a, ne-eqb k 2 b, ne-eqb k 3 c, ne-eqb k 4 d))
+pub no-kind-got : (s : List ℕ) (at k : ℕ) → at < length s → getD s at 0 ≡ k → (k ≡ 1 → ⊥) → (k ≡ 2 → ⊥) → (k ≡ 3 → ⊥) → (k ≡ 4 → ⊥) → (k ≡ 5 → ⊥) → Nothing ≡ walkAt s at
+no-kind-got s at k h e a b c d f = no-row-here s at h (ap layoutOf e ∙ no-row k a b c d f)
 
 -- the fields of a kind that takes n bytes behind its own
 module _ (k : ℕ) (s : List ℕ) (from n : ℕ) (e : n ≡ total (widths (fieldsAt k))) where

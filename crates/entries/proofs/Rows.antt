@@ -37,6 +37,7 @@ listed =
     (row (fieldsAt 2) (omega arith) (omega arith) refl)
     (row (fieldsAt 3) (omega arith) (omega arith) refl)
     (row (fieldsAt 4) (omega arith) (omega arith) refl)
+    (row (fieldsAt 5) (omega arith) (omega arith) refl)
 
 -- what a row says of its fields
 pub record RowOf (r : Layout) (fs : List Field) : Type 0 where

@@ -81,6 +81,17 @@ fn paired_from(s: &[u8], from: usize) -> Walk
     Walk::Got(unpack::entry_of(4, fields::paired_at(s, from)), from + 29)
 }
 
+// Behind the kind of a seat.
+fn seat_from(s: &[u8], from: usize) -> Walk
+    requires { ⌜ from ≤ length (now s) ⌝ }
+    ensures { λ r. ⌜ r ≡ fieldsWalk 5 (now (s .entry)) from ⌝ }
+{
+    if s.len() - from < 8 {
+        return Walk::Nothing;
+    }
+    Walk::Got(unpack::entry_of(5, fields::seat_at(s, from)), from + 8)
+}
+
 // The entry at a place.
 pub fn next_entry(s: &[u8], at: usize) -> Walk
     ensures { λ r. ⌜ r ≡ walkAt (now (s .entry)) at ⌝ }
@@ -94,6 +105,7 @@ pub fn next_entry(s: &[u8], at: usize) -> Walk
         2 => sheet_from(s, at + 1),
         3 => change_from(s, at + 1),
         4 => paired_from(s, at + 1),
+        5 => seat_from(s, at + 1),
         _ => Walk::Nothing,
     }
 }

@@ -147,3 +147,28 @@ pub fn paired_at(s: &[u8], at: usize) -> [u32; FIELDS]
         0,
     ]
 }
+
+// The words of a seat: lower arm, higher arm.
+pub fn seat_at(s: &[u8], at: usize) -> [u32; FIELDS]
+    requires { ⌜ at + 8 ≤ length (now s) ⌝ }
+    ensures { λ r. ⌜ r ≡ wordsAt 5 (drop at (now (s .entry))) ⌝ }
+{
+    let higher = at + 4;
+    [
+        number_at(s, at, 4),
+        number_at(s, higher, 4),
+        0,
+        0,
+        0,
+        0,
+        0,
+        0,
+        0,
+        0,
+        0,
+        0,
+        0,
+        0,
+        0,
+    ]
+}

@@ -16,16 +16,18 @@ use Rattle.paper.specs.declared.Weighing.{Weighing}
 use Rattle.paper.specs.declared.Paired.{Paired}
 use Rattle.paper.specs.declared.Sheet.{Sheet}
 use Rattle.paper.specs.declared.Change.{Change}
+use Rattle.paper.specs.declared.Seat.{Seat}
 use Rattle.paper.specs.declared.Entry.{Entry}
 use Rattle.paper.specs.declared.Entry.the-variants as entry
 use Rattle.paper.specs.Units.{isWeight, isArm}
-use Rattle.paper.specs.Record.{Balance, alike, paired, totalOf, balanceOf, isNone}
+use Rattle.paper.specs.Record.{Balance, alike, paired, totalOf, balanceOf, isNone, sheetStands}
 use Rattle.paper.specs.File.{Field, complement, fieldValue, byte, word, signedWord, layoutOf, valuesOf}
-use Rattle.paper.specs.Refusals.{firstNumber, badReading, badDistance, badPart, weighingFaults, weighingNumber, sheetFaults, sheetNumber, isChange, badChange, changeFaults, changeNumber, entryNumber, full}
+use Rattle.paper.specs.Refusals.{firstNumber, badReading, badDistance, badPart, weighingFaults, weighingNumber, sheetFaults, sheetNumber, isChange, badChange, changeFaults, changeNumber, badEnds, seatFaults, seatNumber, entryNumber, full}
 use Rattle.paper.proofs.Numbers.{no-first, no-other}
 use Rattle.paper.proofs.Units.{arm-range}
 use Rattle.paper.proofs.Weighings.{Fine, first-fine, second-fine}
 use Rattle.sheet.proofs.Accepted.{accepted-sheet}
+use Rattle.seat.proofs.Ends.{ends-of}
 use Rattle.format.specs.Rows.{fieldsOf}
 
 -- a value fits a field: what is written of it is no longer than the field, and reads as it
@@ -153,9 +155,16 @@ change-fits o x e =
     and fit-byte (x .flag) (omega (arith, leb-true (x .flag) 1 (right (isArm (x .c) && some) (leb (x .flag) 1) range)))
     and done
 
+seat-fits : (sheet : Bool) (f : Seat) → firstNumber (seatFaults sheet f) ≡ 0 → AllFit (fieldsOf (entry.Seat f)) (valuesOf (entry.Seat f))
+unfolding seatFaults layoutOf
+seat-fits sheet f e =
+    let ends = ends-of f (no-first 2 (badEnds f) _ (omega arith) (no-other 8 (not sheet) _ (omega arith) e)) in
+    fit-signed (f .lower) (ends .lower) and fit-signed (f .higher) (ends .higher) and done
+
 pub entry-fits : (es : List Entry) (e : Entry) → entryNumber es e ≡ 0 → AllFit (fieldsOf e) (valuesOf e)
-unfolding entryNumber weighingNumber sheetNumber changeNumber
+unfolding entryNumber weighingNumber sheetNumber changeNumber seatNumber
 entry-fits es (entry.Weighing w) n = weighing-fits w (no-other 9 (full es) _ (omega arith) n)
 entry-fits es (entry.Sheet s) n = sheet-fits s (no-other 9 (full es) _ (omega arith) n)
 entry-fits es (entry.Change x) n = change-fits (balanceOf es) x (no-other 9 (full es) _ (omega arith) n)
 entry-fits es (entry.Paired x) n = pair-fits x (no-other 9 (full es) _ (omega arith) n)
+entry-fits es (entry.Seat f) n = seat-fits (sheetStands es) f (no-other 9 (full es) _ (omega arith) n)

@@ -13,6 +13,7 @@ use lib.Seq.{getD-set-same, getD-set-other}
 use Rattle.laws.specs.Division.{multiple-most}
 use Rattle.laws.specs.Written.{written, written-follows}
 use Rattle.paper.specs.declared.Sheet.{Sheet}
+use Rattle.paper.specs.declared.Seat.{Seat}
 use Rattle.paper.specs.Record.{Balance}
 use Rattle.paper.specs.Rows.{row, rowCount}
 use Rattle.paper.specs.Placard.{kilograms, line}
@@ -23,13 +24,13 @@ use Rattle.group.proofs.Rows.{length-lines, lines-more, blank-more}
 
 -- ---- one row more
 
-module _ (s : Sheet) (b : Balance) where
-  one-put : (xs out last : List ℕ) (i : ℕ) → 36 * i ≤ length xs → out ≡ written xs 0 (linesTo s b i) → last ≡ written out (36 * i) (lineAt s b i) → last ≡ written xs 0 (linesTo s b (i + 1))
+module _ (s : Sheet) (f : Seat) (b : Balance) where
+  one-put : (xs out last : List ℕ) (i : ℕ) → 36 * i ≤ length xs → out ≡ written xs 0 (linesTo s f b i) → last ≡ written out (36 * i) (lineAt s f b i) → last ≡ written xs 0 (linesTo s f b (i + 1))
   one-put xs out last i h o l =
-      rw (l, o, add-one i, lines-more s b i) (written-follows xs (linesTo s b i) (lineAt s b i) (36 * i) (length-lines s b i) h)
+      rw (l, o, add-one i, lines-more s f b i) (written-follows xs (linesTo s f b i) (lineAt s f b i) (36 * i) (length-lines s f b i) h)
 
-  one-blank : (n k i : ℕ) → n ≡ blanksTo s b i → k ≡ blanks (rowAt s b i) → n + k ≡ blanksTo s b (i + 1)
-  one-blank n k i e f = rw (e, f, add-one i) (sym (blank-more (rowAt s b) i))
+  one-blank : (n k i : ℕ) → n ≡ blanksTo s f b i → k ≡ blanks (rowAt s f b i) → n + k ≡ blanksTo s f b (i + 1)
+  one-blank n k i e g = rw (e, g, add-one i) (sym (blank-more (rowAt s f b) i))
 
 -- ---- the rows beside one rear load
 
@@ -46,11 +47,11 @@ module _ (s : Sheet) (n : ℕ) (e : n ≡ waters s) where
     water-in = multiple-most (s .water .most) (s .water .step) k (omega arith)
 
     -- its row and its line, by the loads
-    pub row-in : (b : Balance) → row s b (j * s .rear .step) (k * s .water .step) ≡ rowAt s b (j * n + k)
-    row-in b = rw (rear-of, water-of)
+    pub row-in : (f : Seat) (b : Balance) → row s f b (j * s .rear .step) (k * s .water .step) ≡ rowAt s f b (j * n + k)
+    row-in f b = rw (rear-of, water-of)
 
-    pub line-in : (b : Balance) → line (j * s .rear .step) (k * s .water .step) (row s b (j * s .rear .step) (k * s .water .step)) ≡ lineAt s b (j * n + k)
-    line-in b = rw (rear-of, water-of)
+    pub line-in : (f : Seat) (b : Balance) → line (j * s .rear .step) (k * s .water .step) (row s f b (j * s .rear .step) (k * s .water .step)) ≡ lineAt s f b (j * n + k)
+    line-in f b = rw (rear-of, water-of)
 
   -- all rows of a group are among the sheet's
   pub group-room : (j : ℕ) → j < rears s → j * n + n ≤ rowCount s
@@ -63,23 +64,23 @@ pub rear-in : (s : Sheet) (j : ℕ) → j < rears s → j * s .rear .step ≤ s 
 rear-in s j h = multiple-most (s .rear .most) (s .rear .step) j h
 
 -- the first k rows from a place on, of which some are blank: as they stand in a buffer behind the lines before them
-pub record GroupTo (s : Sheet) (b : Balance) (first k blank : ℕ) (from out : List ℕ) : Type 0 where
-  pub blanks : blank + blanksTo s b first ≡ blanksTo s b (first + k)
-  pub lines : (lent : List ℕ) → length lent ≡ length from → from ≡ written lent 0 (linesTo s b first) → out ≡ written lent 0 (linesTo s b (first + k))
+pub record GroupTo (s : Sheet) (f : Seat) (b : Balance) (first k blank : ℕ) (from out : List ℕ) : Type 0 where
+  pub blanks : blank + blanksTo s f b first ≡ blanksTo s f b (first + k)
+  pub lines : (lent : List ℕ) → length lent ≡ length from → from ≡ written lent 0 (linesTo s f b first) → out ≡ written lent 0 (linesTo s f b (first + k))
 
-pub group-begun : (s : Sheet) (b : Balance) (first : ℕ) (out : List ℕ) → GroupTo s b first 0 0 out out
-group-begun s b first out =
+pub group-begun : (s : Sheet) (f : Seat) (b : Balance) (first : ℕ) (out : List ℕ) → GroupTo s f b first 0 0 out out
+group-begun s f b first out =
     let e : first + 0 ≡ first = omega arith in
-    record { blanks = omega (arith, ap (blanksTo s b) e); lines = λ lent n f. f ∙ ap (λ (i : ℕ). written lent 0 (linesTo s b i)) (sym e) }
+    record { blanks = omega (arith, ap (blanksTo s f b) e); lines = λ lent n e′. e′ ∙ ap (λ (i : ℕ). written lent 0 (linesTo s f b i)) (sym e) }
 
 -- one row more
-pub group-more : (s : Sheet) (b : Balance) (first k blank one : ℕ) (from out last : List ℕ) → GroupTo s b first k blank from out → 36 * (first + k) ≤ length from → one ≡ blanks (rowAt s b (first + k)) → last ≡ written out (36 * (first + k)) (lineAt s b (first + k)) → GroupTo s b first (k + 1) (blank + one) from last
-group-more s b first k blank one from out last g h o l =
+pub group-more : (s : Sheet) (f : Seat) (b : Balance) (first k blank one : ℕ) (from out last : List ℕ) → GroupTo s f b first k blank from out → 36 * (first + k) ≤ length from → one ≡ blanks (rowAt s f b (first + k)) → last ≡ written out (36 * (first + k)) (lineAt s f b (first + k)) → GroupTo s f b first (k + 1) (blank + one) from last
+group-more s f b first k blank one from out last g h o l =
     let i = first + k in
     let e : i + 1 ≡ first + (k + 1) = omega arith in
     record {
-      blanks = let n = one-blank s b (blanksTo s b i) one i refl o in omega (arith, g .blanks, n ∙ ap (blanksTo s b) e);
-      lines = λ lent n f. one-put s b lent out last i (omega arith) (g .lines lent n f) l ∙ ap (λ (m : ℕ). written lent 0 (linesTo s b m)) e;
+      blanks = let n = one-blank s f b (blanksTo s f b i) one i refl o in omega (arith, g .blanks, n ∙ ap (blanksTo s f b) e);
+      lines = λ lent n e′. one-put s f b lent out last i (omega arith) (g .lines lent n e′) l ∙ ap (λ (m : ℕ). written lent 0 (linesTo s f b m)) e;
     }
 
 -- ---- the fields of the waters: one more of them

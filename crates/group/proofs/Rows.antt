@@ -8,6 +8,7 @@ use native.Mathlib.Omega.{arith}
 use lib.ListN.{length, take, drop}
 use Rattle.laws.specs.Division.{multiple-most}
 use Rattle.paper.specs.declared.Sheet.{Sheet}
+use Rattle.paper.specs.declared.Seat.{Seat}
 use Rattle.paper.specs.declared.Row.{Row}
 use Rattle.paper.specs.Record.{Balance}
 use Rattle.paper.specs.Rows.{isBlank, below, loadsOf, rowCount, joined, loads}
@@ -34,32 +35,32 @@ water-most s i = multiple-most (s .water .most) (s .water .step) (i % waters s) 
 
 -- ---- the text
 
-pub text-by-index : (s : Sheet) (b : Balance) → text s b ≡ joined (map (lineAt s b) (below (rowCount s)))
+pub text-by-index : (s : Sheet) (f : Seat) (b : Balance) → text s f b ≡ joined (map (lineAt s f b) (below (rowCount s)))
 unfolding text
-text-by-index s b = rw (loads-by-index s, map-map)
+text-by-index s f b = rw (loads-by-index s, map-map)
 
-pub length-lines : (s : Sheet) (b : Balance) (i : ℕ) → length (joined (map (lineAt s b) (below i))) ≡ 36 * i
-length-lines s b i = length-joined (lineAt s b) 36 (λ j. length-line (rearAt s j) (waterAt s j) (rowAt s b j)) i
+pub length-lines : (s : Sheet) (f : Seat) (b : Balance) (i : ℕ) → length (joined (map (lineAt s f b) (below i))) ≡ 36 * i
+length-lines s f b i = length-joined (lineAt s f b) 36 (λ j. length-line (rearAt s j) (waterAt s j) (rowAt s f b j)) i
 
-pub length-text : (s : Sheet) (b : Balance) → length (text s b) ≡ textLength s
+pub length-text : (s : Sheet) (f : Seat) (b : Balance) → length (text s f b) ≡ textLength s
 unfolding textLength
-length-text s b = rw (text-by-index s b) (length-lines s b (rowCount s))
+length-text s f b = rw (text-by-index s f b) (length-lines s f b (rowCount s))
 
 -- the i-th line, whatever stands behind the last
-pub line-at : (s : Sheet) (b : Balance) (i : ℕ) (zs : List ℕ) → i < rowCount s → take 36 (drop (36 * i) (text s b ++ zs)) ≡ lineAt s b i
-line-at s b i zs h =
-    rw (text-by-index s b)
-    (joined-at (lineAt s b) 36 (λ j. length-line (rearAt s j) (waterAt s j) (rowAt s b j)) (rowCount s) i zs h)
+pub line-at : (s : Sheet) (f : Seat) (b : Balance) (i : ℕ) (zs : List ℕ) → i < rowCount s → take 36 (drop (36 * i) (text s f b ++ zs)) ≡ lineAt s f b i
+line-at s f b i zs h =
+    rw (text-by-index s f b)
+    (joined-at (lineAt s f b) 36 (λ j. length-line (rearAt s j) (waterAt s j) (rowAt s f b j)) (rowCount s) i zs h)
 
 -- one more line
-pub lines-more : (s : Sheet) (b : Balance) (i : ℕ) → joined (map (lineAt s b) (below (suc i))) ≡ joined (map (lineAt s b) (below i)) ++ lineAt s b i
-lines-more s b i = joined-more (lineAt s b) i
+pub lines-more : (s : Sheet) (f : Seat) (b : Balance) (i : ℕ) → joined (map (lineAt s f b) (below (suc i))) ≡ joined (map (lineAt s f b) (below i)) ++ lineAt s f b i
+lines-more s f b i = joined-more (lineAt s f b) i
 
 -- ---- the blank rows
 
-pub blank-by-index : (s : Sheet) (b : Balance) → blankCount s b ≡ blankOf (map (rowAt s b) (below (rowCount s)))
+pub blank-by-index : (s : Sheet) (f : Seat) (b : Balance) → blankCount s f b ≡ blankOf (map (rowAt s f b) (below (rowCount s)))
 unfolding blankCount
-blank-by-index s b = rw (loads-by-index s, map-map)
+blank-by-index s f b = rw (loads-by-index s, map-map)
 
 blank-last : (xs : List Row) (x : Row) → blankOf (xs ++ x ∷ []) ≡ blankOf xs + cond (isBlank x) 1 0
 unfolding blankOf

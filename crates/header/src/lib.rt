@@ -31,14 +31,14 @@ fn is_version(v: u8) -> bool
     v == FIRST || v == VERSION
 }
 
-// The last kind of entry that a version has: paired weighings came with the second.
+// The last kind of entry that a version has: paired weighings and seats came with the second.
 pub fn last_kind(v: u8) -> u8
     ensures { λ k. ⌜ k ≡ lastKind v ⌝ }
 {
     if v == FIRST {
         return 3;
     }
-    4
+    5
 }
 
 // Whether the length and the version are right.

@@ -1,7 +1,8 @@
-// A weighing, a sheet, a change and a paired weighing of their values in the order of the file.
+// Each kind of entry of its values in the order of the file.
 use layout::FIELDS;
 use paper::Change;
 use paper::Paired;
+use paper::Seat;
 use paper::Sheet;
 use paper::Station;
 use paper::Weighing;
@@ -82,5 +83,14 @@ pub fn paired_of(v: [i64; FIELDS]) -> Paired
         a: v[5],
         b: plain(v[6]),
         n: plain(v[7]),
+    }
+}
+
+pub fn seat_of(v: [i64; FIELDS]) -> Seat
+    ensures { λ r. ⌜ entry.Seat r ≡ entryOf 5 v ⌝ }
+{
+    Seat {
+        lower: v[0],
+        higher: v[1],
     }
 }

@@ -54,13 +54,14 @@ no-values (suc k) = ap (λ vs. pos 0 ∷ vs) (no-values k)
 
 -- ---- the text of an entry
 
--- its kind, by the first letter of its name
-kind-named : (e : Entry) → kindNamed (getD (entryText e) 0 0) ≡ kindOf e
+-- its kind, by the first two letters of its name
+kind-named : (e : Entry) → kindNamed (getD (entryText e) 0 0) (getD (entryText e) 1 0) ≡ kindOf e
 unfolding kindNamed entryText nameOf
 kind-named (entry.Weighing w) = refl
 kind-named (entry.Sheet s) = refl
 kind-named (entry.Change x) = refl
 kind-named (entry.Paired x) = refl
+kind-named (entry.Seat f) = refl
 
 name-word : (e : Entry) → Word (nameOf (kindOf e))
 unfolding nameOf
@@ -68,6 +69,7 @@ name-word (entry.Weighing w) = omega arith
 name-word (entry.Sheet s) = omega arith
 name-word (entry.Change x) = omega arith
 name-word (entry.Paired x) = omega arith
+name-word (entry.Seat f) = omega arith
 
 others-text : (e : Entry) → otherWords (entryText e) ≡ drop 1 (valuesText (valuesOf e))
 unfolding entryText
@@ -79,6 +81,7 @@ in-places (entry.Weighing w) = refl
 in-places (entry.Sheet s) = refl
 in-places (entry.Change x) = refl
 in-places (entry.Paired x) = refl
+in-places (entry.Seat f) = refl
 
 text-kept : (e : Entry) → passedOver (entryText e) ≡ false
 unfolding passedOver entryText nameOf
@@ -86,6 +89,7 @@ text-kept (entry.Weighing w) = refl
 text-kept (entry.Sheet s) = refl
 text-kept (entry.Change x) = refl
 text-kept (entry.Paired x) = refl
+text-kept (entry.Seat f) = refl
 
 text-no-undo : (e : Entry) → eqList eqb (entryText e) undoText ≡ false
 unfolding entryText nameOf
@@ -93,6 +97,7 @@ text-no-undo (entry.Weighing w) = refl
 text-no-undo (entry.Sheet s) = refl
 text-no-undo (entry.Change x) = refl
 text-no-undo (entry.Paired x) = refl
+text-no-undo (entry.Seat f) = refl
 
 eq-texts : (xs : List ℕ) → eqList eqb xs xs ≡ true
 eq-texts xs = list-same eqb (λ x. eq-eqb x x refl) xs

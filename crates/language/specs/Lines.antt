@@ -40,9 +40,9 @@ Means xs line.NotUnderstood = (passedOver xs ≡ false) × (xs ≡ undoText → 
 
 -- ---- what a line says, worked out
 
--- the kind whose name begins with this letter: w, s, c, or else p
-unfoldable pub kindNamed : ℕ → ℕ
-kindNamed x = cond (eqb x 119) 1 (cond (eqb x 115) 2 (cond (eqb x 99) 3 4))
+-- the kind whose name begins with these two letters: w, sh, s before another letter, c, or else p
+unfoldable pub kindNamed : ℕ → ℕ → ℕ
+kindNamed x y = cond (eqb x 119) 1 (cond (eqb x 115) (cond (eqb y 104) 2 5) (cond (eqb x 99) 3 4))
 
 -- what stands before the first space, and behind it
 unfoldable pub firstWord : List ℕ → List ℕ
@@ -58,7 +58,7 @@ valuesFrom (suc k) xs = valueOf (firstWord xs) ∷ valuesFrom k (otherWords xs)
 
 -- the only entry whose text a line can be
 unfoldable pub candidate : List ℕ → Entry
-candidate xs = entryOf (kindNamed (getD xs 0 0)) (valuesFrom 15 (otherWords xs))
+candidate xs = entryOf (kindNamed (getD xs 0 0) (getD xs 1 0)) (valuesFrom 15 (otherWords xs))
 
 -- what a line says: the entry whose text it is
 unfoldable pub says : List ℕ → Line

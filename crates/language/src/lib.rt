@@ -4,7 +4,7 @@ use paper::Entry;
 ghost use mathlib.Core.Path.{_≡_};
 ghost use Prim.Native.Nat.{suc, _≤_};
 ghost use lib.Dec.{eqb};
-ghost use lib.ListN.{length, drop};
+ghost use lib.ListN.{length, getD, drop};
 ghost use Rattle.laws.specs.Equal.{eqList};
 ghost use Rattle.language.specs.Lines.{kindNamed, valuesFrom, candidate as Lines·candidate, says};
 
@@ -19,13 +19,20 @@ pub enum Line {
     NotUnderstood,
 }
 
-// The kind whose name begins with this letter.
-fn kind_named(x: u8) -> u8
-    ensures { λ r. ⌜ r ≡ kindNamed x ⌝ }
+// The letter at a place, 0 where there is none.
+fn letter_at(s: &[u8], i: usize) -> u8
+    ensures { λ r. ⌜ r ≡ getD (now (s .entry)) i 0 ⌝ }
+{
+    if i < s.len() { s[i] } else { 0 }
+}
+
+// The kind whose name begins with these two letters.
+fn kind_named(x: u8, y: u8) -> u8
+    ensures { λ r. ⌜ r ≡ kindNamed x y ⌝ }
 {
     match x {
         b'w' => 1,
-        b's' => 2,
+        b's' => if y == b'h' { 2 } else { 5 },
         b'c' => 3,
         _ => 4,
     }
@@ -57,12 +64,12 @@ fn values_at(s: &[u8], from: usize) -> [i64; FIELDS]
 
 // The only entry whose text a line can be.
 fn candidate(s: &[u8]) -> Entry
-    requires { ⌜ 1 ≤ length (now s) ⌝ }
     ensures { λ r. ⌜ r ≡ Lines·candidate (now (s .entry)) ⌝ }
 {
     let end = bytes::scan::find(s, 0, s.len(), b' ');
     let v = values_at(s, behind(s, end));
-    values::entry_of(kind_named(s[0]), v)
+    let kind = kind_named(letter_at(s, 0), letter_at(s, 1));
+    values::entry_of(kind, v)
 }
 
 // Whether two slices hold the same bytes.

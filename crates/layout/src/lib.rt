@@ -2,6 +2,7 @@
 use paper::Change;
 use paper::Entry;
 use paper::Paired;
+use paper::Seat;
 use paper::Sheet;
 use paper::Weighing;
 use words::word_of;
@@ -54,6 +55,12 @@ pub fn layout_of(kind: u8) -> Layout
             count: 8,
             length: 29,
             widths: [1, 4, 4, 4, 4, 4, 4, 4, 0, 0, 0, 0, 0, 0, 0],
+        },
+        // lower arm, higher arm
+        5 => Layout {
+            count: 2,
+            length: 8,
+            widths: [4, 4, 0, 0, 0, 0, 0, 0, 0, 0, 0, 0, 0, 0, 0],
         },
         _ => Layout {
             count: 0,
@@ -115,6 +122,14 @@ fn paired_words(x: Paired) -> [u64; FIELDS]
     [x.m, x.p, x.q, x.p2, x.q2, a, x.b, x.n, 0, 0, 0, 0, 0, 0, 0]
 }
 
+fn seat_words(f: Seat) -> [u64; FIELDS]
+    ensures { λ r. ⌜ r ≡ padded (wordsOf (entry.Seat f)) ⌝ }
+{
+    let lower = word_of(f.lower);
+    let higher = word_of(f.higher);
+    [lower, higher, 0, 0, 0, 0, 0, 0, 0, 0, 0, 0, 0, 0, 0]
+}
+
 // The kind of an entry.
 pub fn kind_of(e: Entry) -> u8
     ensures { λ r. ⌜ r ≡ kindOf e ⌝ }
@@ -124,6 +139,7 @@ pub fn kind_of(e: Entry) -> u8
         Entry::Sheet(_) => 2,
         Entry::Change(_) => 3,
         Entry::Paired(_) => 4,
+        Entry::Seat(_) => 5,
     }
 }
 
@@ -136,6 +152,7 @@ fn words_in(e: Entry) -> [u64; FIELDS]
         Entry::Sheet(s) => sheet_words(s),
         Entry::Change(x) => change_words(x),
         Entry::Paired(x) => paired_words(x),
+        Entry::Seat(f) => seat_words(f),
     }
 }
 

@@ -13,11 +13,13 @@ use Rattle.laws.specs.declared.Sides.{Sides}
 use Rattle.laws.specs.Tests.{same, left, leb-by, in-span, span-lo, span-hi}
 use Rattle.laws.specs.Z.{Is, is-nat, is-add, is-mul, leZ-test}
 use Rattle.paper.specs.declared.Sheet.{Sheet}
+use Rattle.paper.specs.declared.Seat.{Seat}
 use Rattle.paper.specs.Units.{halfGrams}
 use Rattle.paper.specs.Record.{Balance}
-use Rattle.paper.specs.Rows.{laden, atMost, lines, all, keepsAt}
-use Rattle.planes.proofs.Lines.{at-most, laden-on-total, laden-on-moment, laden-on-part}
-use Rattle.planes.proofs.Ends.{wetLine, fwdLine, aftLine, nlpLine, dryLine}
+use Rattle.paper.specs.Rows.{laden, atMost}
+use Rattle.planes.specs.Plane.{keptAt}
+use Rattle.planes.proofs.Lines.{at-most, laden-on-total, laden-on-moment, laden-on-part, dryLine, wetLine, nlpLine, fwdLine, aftLine}
+use Rattle.planes.proofs.Arms.{last, kept-is}
 use Rattle.aboard.specs.declared.Laden.{Laden}
 use Rattle.aboard.specs.Aboard.{safeArm, plus, scaled, Stands, Beside, LoadOf}
 use Rattle.aboard.proofs.Standing.{is-by, stands-plus, load-scaled}
@@ -77,16 +79,17 @@ module _ (x y : Laden) (k : ℕ) where
   abbrev pub aftTest : Bool
   aftTest = leb (safeMargin x .down + safeMargin y .down * k) (safeMargin x .up + safeMargin y .up * k)
 
-module _ (s : Sheet) (b : Balance) (r v : ℕ) (x y : Laden) (h : Beside s b r v x) (l : LoadOf s (s .front .step) (s .front .arm) y) (k : ℕ) where
+-- whose load sits at an arm
+module _ (s : Sheet) (arm : ℤ) (b : Balance) (r v : ℕ) (x y : Laden) (h : Beside s b r v x) (l : LoadOf s (s .front .step) arm y) (k : ℕ) where
   abbrev load : ℕ
   load = k * s .front .step
 
-  whole : Stands s (laden s b r load v .total) (laden s b r load v .moment) (plus x (scaled k y))
+  whole : Stands s (laden s arm b r load v .total) (laden s arm b r load v .moment) (plus x (scaled k y))
   whole =
-      rw (laden-on-total s b r load v, laden-on-moment s b r load v)
-      (stands-plus s x (scaled k y) h (load-scaled s k (s .front .step) (s .front .arm) y l))
+      rw (laden-on-total s arm b r load v, laden-on-moment s arm b r load v)
+      (stands-plus s x (scaled k y) h (load-scaled s k (s .front .step) arm y l))
 
-  pub weight-line : (most : ℕ) → atMost most (laden s b r load v .total) ≡ weightTest x y k most
+  pub weight-line : (most : ℕ) → atMost most (laden s arm b r load v .total) ≡ weightTest x y k most
   weight-line most =
       weight-test s (plus x (scaled k y)) whole most
       ∙ leb-by (x .weight + k * y .weight) (2 * most + 0) (x .weight + y .weight * k) (2 * most) (omega arith) (omega arith) refl
@@ -95,18 +98,18 @@ module _ (s : Sheet) (b : Balance) (r v : ℕ) (x y : Laden) (h : Beside s b r v
   by-margin : (margin : Laden → Sides) → margin (plus x (scaled k y)) .down ≡ margin x .down + margin y .down * k → margin (plus x (scaled k y)) .up ≡ margin x .up + margin y .up * k → leb (margin (plus x (scaled k y)) .down) (margin (plus x (scaled k y)) .up) ≡ leb (margin x .down + margin y .down * k) (margin x .up + margin y .up * k)
   by-margin margin e f = rw (e, f)
 
-  pub fwd-line : fwdLine s b r load v ≡ fwdTest x y k
+  pub fwd-line : fwdLine s arm b r load v ≡ fwdTest x y k
   fwd-line = fwd-test s (plus x (scaled k y)) whole ∙ by-margin forwardMargin (omega arith) (omega arith)
 
-  pub aft-line : aftLine s b r load v ≡ aftTest x y k
+  pub aft-line : aftLine s arm b r load v ≡ aftTest x y k
   aft-line = aft-test s (plus x (scaled k y)) whole ∙ by-margin safeMargin (omega arith) (omega arith)
 
   -- n is the non-lifting weight with the rear load aboard
-  pub nlp-line : (n : ℕ) → pos n ≡ b .nonLifting +ℤ halfGrams (pos r) → nlpLine s b r load v ≡ (eqb (2 * s .nlp) 0 || leb (n + y .weight * k) (2 * s .nlp))
+  pub nlp-line : (n : ℕ) → pos n ≡ b .nonLifting +ℤ halfGrams (pos r) → nlpLine s arm b r load v ≡ (eqb (2 * s .nlp) 0 || leb (n + y .weight * k) (2 * s .nlp))
   nlp-line n e =
-      let more = weight-is (scaled k y) (load-scaled s k (s .front .step) (s .front .arm) y l) in
-      let part : Is (laden s b r load v .nonLifting) (n + k * y .weight) (0 + 0) = rw (laden-on-part s b r load v, ← e) (is-add (is-nat n) more) in
-      let test : atMost (s .nlp) (laden s b r load v .nonLifting) ≡ leb (n + y .weight * k) (2 * s .nlp) =
+      let more = weight-is (scaled k y) (load-scaled s k (s .front .step) arm y l) in
+      let part : Is (laden s arm b r load v .nonLifting) (n + k * y .weight) (0 + 0) = rw (laden-on-part s arm b r load v, ← e) (is-add (is-nat n) more) in
+      let test : atMost (s .nlp) (laden s arm b r load v .nonLifting) ≡ leb (n + y .weight * k) (2 * s .nlp) =
       at-most part (s .nlp) ∙ leb-by (n + k * y .weight) (2 * s .nlp + (0 + 0)) (n + y .weight * k) (2 * s .nlp) (omega arith) (omega arith) refl in
       rw (test, no-halves (s .nlp))
 
@@ -121,12 +124,11 @@ first-of r a b c d e f g h t =
     (left (((a && b) && c) && d) e (left ((((a && b) && c) && d) && e) f (left (((((a && b) && c) && d) && e) && f) g (sym h ∙ t))))))
 
 -- with none of the water
-pub none-kept : (s : Sheet) (b : Balance) (r p : ℕ) (seat dry wet nlp fwd aft : Bool)
-    → dryLine s b r p 0 ≡ dry → wetLine s b r p 0 ≡ wet → nlpLine s b r p 0 ≡ nlp → fwdLine s b r p 0 ≡ fwd → aftLine s b r p 0 ≡ aft
-    → ((((((seat && leb 1 p) && dry) && wet) && nlp) && fwd) && aft) ≡ (seat && keepsAt s b r p 0)
-unfolding keepsAt lines all
-none-kept s b r p seat dry wet nlp fwd aft d w n f a =
-    rw (d, w, n, f, a) (simp (and-assoc, and-true))
+pub none-kept : (s : Sheet) (f : Seat) (b : Balance) (r p : ℕ) (seat dry wet nlp fwd aft : Bool)
+    → dryLine s (f .lower) b r p 0 ≡ dry → wetLine s (f .lower) b r p 0 ≡ wet → nlpLine s (f .lower) b r p 0 ≡ nlp → fwdLine s (f .lower) b r p 0 ≡ fwd → aftLine s (last f) b r p 0 ≡ aft
+    → ((((((seat && leb 1 p) && dry) && wet) && nlp) && fwd) && aft) ≡ (seat && keptAt s f b r p 0)
+none-kept s f b r p seat dry wet nlp fwd aft d w n g a =
+    rw (kept-is s f b r p 0, d, w, n, g, a) (simp (and-assoc, and-true))
 
 -- and with all of it, where x is the line of the moment that is left
 pub all-kept : (seat none all wet x : Bool) → all ≡ (none && (wet && x)) → (((seat && none) && wet) && x) ≡ (seat && all)

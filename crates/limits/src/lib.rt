@@ -12,10 +12,10 @@ ghost use mathlib.Core.Bool.{_&&_, _||_, true, false};
 ghost use Prim.Native.Nat.{ℕ, _+_, _*_};
 ghost use lib.Dec.{leb, eqb};
 ghost use lib.IntN.{pos, _+ℤ_};
-ghost use Rattle.paper.specs.Units.{halfGrams};
+ghost use Rattle.paper.specs.Units.{isArm, halfGrams};
 ghost use Rattle.paper.specs.Record.{Balance};
 ghost use Rattle.paper.specs.Refusals.{firstNumber, sheetFaults, badEnds};
-ghost use Rattle.aboard.specs.Aboard.{ArmsOf, Beside, Room};
+ghost use Rattle.aboard.specs.Aboard.{ArmsOf, Beside, LoadOf, Room, Share};
 ghost use Rattle.solver.specs.Span.{within};
 ghost use Rattle.limits.specs.Seats.{forwardMargin, safeMargin, inSeat, FrontOf, Seated, NoneOf, AllOf};
 
@@ -69,6 +69,14 @@ fn steps(s: Sheet) -> Span
     )
 }
 
+// What a step of the front seat weighs and turns at an arm.
+fn step_at(s: Sheet, arm: i64, a: Arms) -> Laden
+    requires { ⌜ (firstNumber (sheetFaults s) ≡ 0) × (isArm arm ≡ true) × ArmsOf s a ⌝ }
+    ensures { λ x. ⌜ Share x × LoadOf s (s .front .step) arm x ⌝ }
+{
+    aboard::grams_at(s.front.step, laws::split(arm), a)
+}
+
 // The front seat of an accepted sheet, between the ends of an accepted seat.
 pub fn front_of(s: Sheet, f: Seat, a: Arms) -> Front
     requires { ⌜ (firstNumber (sheetFaults s) ≡ 0) × (badEnds f ≡ false) × ArmsOf s a ⌝ }
@@ -77,8 +85,8 @@ pub fn front_of(s: Sheet, f: Seat, a: Arms) -> Front
     Front {
         seat: f,
         steps: steps(s),
-        lower: aboard::grams_at(s.front.step, laws::split(f.lower), a),
-        higher: aboard::grams_at(s.front.step, laws::split(f.higher), a),
+        lower: step_at(s, f.lower, a),
+        higher: step_at(s, f.higher, a),
     }
 }
 

@@ -3,6 +3,7 @@ use crate::sample::change;
 use crate::sample::lax_sheet;
 use crate::sample::ordinary_sheet;
 use crate::sample::paired;
+use crate::sample::seat;
 use crate::sample::weighing;
 use crate::stored;
 use crate::texts::byte_at;
@@ -27,6 +28,7 @@ fn called(r: Record, call: &[u8]) -> Kept {
         b's' => r.install(ordinary_sheet(other)),
         b'l' => r.install(lax_sheet(other)),
         b'c' => r.change(change(other)),
+        b'a' => r.adjust_seat(seat(other)),
         b'r' => stored::read_again(r),
         b'g' => stored::read_g(r, 2, 89),
         b'x' => stored::read_g(r, 2, 88),

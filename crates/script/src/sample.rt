@@ -4,6 +4,7 @@ use crate::texts::place_of;
 use crate::texts::signed;
 use paper::Change;
 use paper::Paired;
+use paper::Seat;
 use paper::Sheet;
 use paper::Station;
 use paper::Weighing;
@@ -115,5 +116,14 @@ pub fn change(other: &[u8]) -> Change {
         c: signed(x[0]),
         arm: signed(x[1]),
         flag: x[2],
+    }
+}
+
+// A seat: its ends, l the lower and h the higher.
+pub fn seat(other: &[u8]) -> Seat {
+    let x = fields(b"lh", b"l-50000 h-45000", other);
+    Seat {
+        lower: signed(x[0]),
+        higher: signed(x[1]),
     }
 }

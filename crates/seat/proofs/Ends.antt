@@ -19,12 +19,18 @@ pub record Ends (f : Seat) : Type 0 where
   pub higher : IsArm (f .higher)
   pub order : leZ (f .lower) (f .higher) ≡ true
 
+-- both ends are arms
+pub ends-arms : (f : Seat) → badEnds f ≡ false → (isArm (f .lower) ≡ true) × (isArm (f .higher) ≡ true)
+unfolding badEnds
+ends-arms f e = (kept (isArm (f .lower)) e (λ h. simp h), kept (isArm (f .higher)) e (λ h. simp (h, and-false)))
+
 pub ends-of : (f : Seat) → badEnds f ≡ false → Ends f
 unfolding badEnds
 ends-of f e =
+    let arms = ends-arms f e in
     record {
-      lower = arm-range (f .lower) (kept (isArm (f .lower)) e (λ h. simp h));
-      higher = arm-range (f .higher) (kept (isArm (f .higher)) e (λ h. simp (h, and-false)));
+      lower = arm-range (f .lower) (arms .0);
+      higher = arm-range (f .higher) (arms .1);
       order = kept (leZ (f .lower) (f .higher)) e (λ h. simp (h, and-false));
     }
 

@@ -83,18 +83,32 @@ module _ (es : List Entry) (s : Sheet) (h : accepted es ≡ true) (e : sheetOf e
   pub ends-accepted : badEnds (endsOf s (seatOf es)) ≡ false
   ends-accepted = ends-by (seatOf es) refl
 
+-- ---- what is in force, apart
+
 nothing-found : {x : Sheet × Seat} → none ≡ some x → ⊥
 unfolding isNone
 nothing-found e = true≢false (ap isNone e)
 
-pub force-accepted : (es : List Entry) (s : Sheet) (f : Seat) → accepted es ≡ true → inForce es ≡ some (s, f) → (firstNumber (sheetFaults s) ≡ 0) × (badEnds f ≡ false)
+pub force-none : (es : List Entry) → inForce es ≡ none → sheetOf es ≡ none
 unfolding inForce
-force-accepted es s f h e = by (sheetOf es) refl
+force-none es e = by (sheetOf es) refl
   where
-    by : (o : Option Sheet) → sheetOf es ≡ o → (firstNumber (sheetFaults s) ≡ 0) × (badEnds f ≡ false)
+    by : (o : Option Sheet) → sheetOf es ≡ o → o ≡ none
+    by none k = refl
+    by (some s) k = absurd (nothing-found (sym (rw k at e)))
+
+pub force-apart : (es : List Entry) (s : Sheet) (f : Seat) → inForce es ≡ some (s, f) → (sheetOf es ≡ some s) × (endsOf s (seatOf es) ≡ f)
+unfolding inForce
+force-apart es s f e = by (sheetOf es) refl
+  where
+    by : (o : Option Sheet) → sheetOf es ≡ o → (sheetOf es ≡ some s) × (endsOf s (seatOf es) ≡ f)
     by none k = absurd (nothing-found (rw k at e))
     by (some t) k =
         let z : _≡_ {A = Sheet × Seat} (t, endsOf t (seatOf es)) (s, f) = Option·some-injective _ _ (rw k at e) in
-        let t≡s : t ≡ s = ap (λ (x : Sheet × Seat). x .0) z in
-        let f≡ : endsOf t (seatOf es) ≡ f = ap (λ (x : Sheet × Seat). x .1) z in
-        (rw t≡s at (sheet-accepted es t h k), rw f≡ at (ends-accepted es t h k))
+        let same : t ≡ s = ap (λ (x : Sheet × Seat). x .0) z in
+        (rw same at k, rw same at (ap (λ (x : Sheet × Seat). x .1) z))
+
+pub force-accepted : (es : List Entry) (s : Sheet) (f : Seat) → accepted es ≡ true → inForce es ≡ some (s, f) → (firstNumber (sheetFaults s) ≡ 0) × (badEnds f ≡ false)
+force-accepted es s f h e =
+    let apart = force-apart es s f e in
+    (sheet-accepted es s h (apart .0), rw (apart .1) at (ends-accepted es s h (apart .0)))

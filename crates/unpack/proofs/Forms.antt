@@ -14,6 +14,7 @@ use Rattle.paper.specs.declared.Weighing.{Weighing}
 use Rattle.paper.specs.declared.Sheet.{Sheet}
 use Rattle.paper.specs.declared.Change.{Change}
 use Rattle.paper.specs.declared.Paired.{Paired}
+use Rattle.paper.specs.declared.Seat.{Seat}
 use Rattle.paper.specs.declared.Entry.the-variants as entry
 use Rattle.paper.specs.File.{signedWord, fieldValue, layoutOf, entryOf}
 use Rattle.paper.specs.Record.{isNone}
@@ -21,14 +22,14 @@ use Rattle.format.specs.Fields.{valuesBy}
 use Rattle.layout.specs.Table.{entryWith}
 
 -- the last kind of the table
-fourth : (t : Bool) (k : ℕ) → eqb k 4 ≡ t → isNone (cond t (layoutOf 4) none) ≡ false → k ≡ 4
+fifth : (t : Bool) (k : ℕ) → eqb k 5 ≡ t → isNone (cond t (layoutOf 5) none) ≡ false → k ≡ 5
 unfolding isNone
-fourth true k e h = eqb-true k 4 e
-fourth false k e h = cc
+fifth true k e h = eqb-true k 5 e
+fifth false k e h = cc
 
-pub last-row : (k : ℕ) → isNone (layoutOf k) ≡ false → (k ≡ 1 → ⊥) → (k ≡ 2 → ⊥) → (k ≡ 3 → ⊥) → k ≡ 4
+pub last-row : (k : ℕ) → isNone (layoutOf k) ≡ false → (k ≡ 1 → ⊥) → (k ≡ 2 → ⊥) → (k ≡ 3 → ⊥) → (k ≡ 4 → ⊥) → k ≡ 5
 unfolding layoutOf
-last-row k h a b c = fourth (eqb k 4) k refl (rw (ne-eqb k 1 a, ne-eqb k 2 b, ne-eqb k 3 c) at h)
+last-row k h a b c d = fifth (eqb k 5) k refl (rw (ne-eqb k 1 a, ne-eqb k 2 b, ne-eqb k 3 c, ne-eqb k 4 d) at h)
 
 -- ---- from words to an entry
 
@@ -72,6 +73,9 @@ pairedIn ns =
       n = getD ns 7 0;
     }
 
+abbrev pub seatIn : List ℕ → Seat
+seatIn ns = record { lower = arm ns 0; higher = arm ns 1 }
+
 module _ (ns : List ℕ) (e : length ns ≡ 15) where
   pub weighing-in : entry.Weighing (weighingIn ns) ≡ entryWith 1 ns
   unfolding entryWith layoutOf entryOf valuesBy fieldValue
@@ -88,6 +92,10 @@ module _ (ns : List ℕ) (e : length ns ≡ 15) where
   pub paired-in : entry.Paired (pairedIn ns) ≡ entryWith 4 ns
   unfolding entryWith layoutOf entryOf valuesBy fieldValue
   paired-in = sym (ap (entryWith 4) (by-elements 15 ns 0 e))
+
+  pub seat-in : entry.Seat (seatIn ns) ≡ entryWith 5 ns
+  unfolding entryWith layoutOf entryOf valuesBy fieldValue
+  seat-in = sym (ap (entryWith 5) (by-elements 15 ns 0 e))
 
   -- a sheet of its parts
   pub sheet-made :

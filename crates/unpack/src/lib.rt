@@ -3,6 +3,7 @@ use layout::FIELDS;
 use paper::Change;
 use paper::Entry;
 use paper::Paired;
+use paper::Seat;
 use paper::Sheet;
 use paper::Station;
 use paper::Weighing;
@@ -78,6 +79,15 @@ fn paired_of(n: [u32; FIELDS]) -> Paired
     }
 }
 
+fn seat_of(n: [u32; FIELDS]) -> Seat
+    ensures { λ r. ⌜ entry.Seat r ≡ entryWith 5 n ⌝ }
+{
+    Seat {
+        lower: signed(n[0]),
+        higher: signed(n[1]),
+    }
+}
+
 // The entry of a kind of the table with these words.
 pub fn entry_of(kind: u8, n: [u32; FIELDS]) -> Entry
     requires { ⌜ isNone (layoutOf kind) ≡ false ⌝ }
@@ -87,6 +97,7 @@ pub fn entry_of(kind: u8, n: [u32; FIELDS]) -> Entry
         1 => Entry::Weighing(weighing_of(n)),
         2 => Entry::Sheet(sheet_of(n)),
         3 => Entry::Change(change_of(n)),
-        _ => Entry::Paired(paired_of(n)),
+        4 => Entry::Paired(paired_of(n)),
+        _ => Entry::Seat(seat_of(n)),
     }
 }

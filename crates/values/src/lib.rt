@@ -3,6 +3,7 @@ use layout::FIELDS;
 use paper::Change;
 use paper::Entry;
 use paper::Paired;
+use paper::Seat;
 use paper::Sheet;
 use paper::Weighing;
 ghost use mathlib.Core.Path.{_≡_};
@@ -111,6 +112,12 @@ fn paired_values(x: Paired) -> [i64; FIELDS]
     ]
 }
 
+fn seat_values(f: Seat) -> [i64; FIELDS]
+    ensures { λ r. ⌜ r ≡ valuesIn (entry.Seat f) .places ⌝ }
+{
+    [f.lower, f.higher, 0, 0, 0, 0, 0, 0, 0, 0, 0, 0, 0, 0, 0]
+}
+
 // An entry as its values.
 pub fn values_of(e: Entry) -> Values
     requires { ⌜ Readable e ⌝ }
@@ -133,6 +140,10 @@ pub fn values_of(e: Entry) -> Values
             count: 8,
             places: paired_values(x),
         },
+        Entry::Seat(f) => Values {
+            count: 2,
+            places: seat_values(f),
+        },
     }
 }
 
@@ -144,6 +155,7 @@ pub fn entry_of(kind: u8, v: [i64; FIELDS]) -> Entry
         1 => Entry::Weighing(kinds::weighing_of(v)),
         2 => Entry::Sheet(kinds::sheet_of(v)),
         3 => Entry::Change(kinds::change_of(v)),
-        _ => Entry::Paired(kinds::paired_of(v)),
+        4 => Entry::Paired(kinds::paired_of(v)),
+        _ => Entry::Seat(kinds::seat_of(v)),
     }
 }

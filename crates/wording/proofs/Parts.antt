@@ -25,6 +25,7 @@ values-few (entry.Weighing w) = omega arith
 values-few (entry.Sheet s) = omega arith
 values-few (entry.Change x) = omega arith
 values-few (entry.Paired x) = omega arith
+values-few (entry.Seat f) = omega arith
 
 pub length-text : (e : Entry) → length (entryText e) ≡ length (nameOf (kindOf e)) + length (valuesText (valuesOf e))
 unfolding entryText

@@ -29,6 +29,7 @@ kind-most (entry.Weighing w) = omega arith
 kind-most (entry.Sheet s) = omega arith
 kind-most (entry.Change x) = omega arith
 kind-most (entry.Paired x) = omega arith
+kind-most (entry.Seat f) = omega arith
 
 pub text-most : (e : Entry) → length (entryText e) ≤ 338
 unfolding entryText
@@ -47,6 +48,7 @@ name-above (entry.Weighing w) = omega arith
 name-above (entry.Sheet s) = omega arith
 name-above (entry.Change x) = omega arith
 name-above (entry.Paired x) = omega arith
+name-above (entry.Seat f) = omega arith
 
 values-above : (vs : List ℤ) → Each Above (joined (map spaced vs))
 unfolding joined

@@ -10,12 +10,13 @@ use Rattle.paper.specs.Placard.{space}
 use Rattle.paper.specs.File.{kindOf, valuesOf}
 use Rattle.numerals.specs.Numerals.{numeral}
 
--- the name of a kind of entry: weighing, sheet, change, paired
+-- the name of a kind of entry: weighing, sheet, change, paired, seat
 unfoldable pub nameOf : ℕ → List ℕ
 nameOf k =
     cond (eqb k 1) (119 ∷ 101 ∷ 105 ∷ 103 ∷ 104 ∷ 105 ∷ 110 ∷ 103 ∷ [])
     (cond (eqb k 2) (115 ∷ 104 ∷ 101 ∷ 101 ∷ 116 ∷ [])
-    (cond (eqb k 3) (99 ∷ 104 ∷ 97 ∷ 110 ∷ 103 ∷ 101 ∷ []) (112 ∷ 97 ∷ 105 ∷ 114 ∷ 101 ∷ 100 ∷ [])))
+    (cond (eqb k 3) (99 ∷ 104 ∷ 97 ∷ 110 ∷ 103 ∷ 101 ∷ [])
+    (cond (eqb k 4) (112 ∷ 97 ∷ 105 ∷ 114 ∷ 101 ∷ 100 ∷ []) (115 ∷ 101 ∷ 97 ∷ 116 ∷ []))))
 
 -- a value behind a space
 abbrev pub spaced : ℤ → List ℕ

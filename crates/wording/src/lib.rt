@@ -26,7 +26,8 @@ fn put_name(out: &mut [u8], at: usize, kind: u8) -> usize
         1 => put_bytes(out, at, b"weighing"),
         2 => put_bytes(out, at, b"sheet"),
         3 => put_bytes(out, at, b"change"),
-        _ => put_bytes(out, at, b"paired"),
+        4 => put_bytes(out, at, b"paired"),
+        _ => put_bytes(out, at, b"seat"),
     }
 }
 

@@ -300,7 +300,7 @@ fn take_back(random: &mut Random, glider: &Glider, calls: &mut Vec<Call>) {
 
 // ---- Kind 6: files, good and damaged ----
 
-/// A journal of accepted entries, short or long.
+/// A journal of accepted entries, short or long, at times with a seat behind them.
 fn some_journal(random: &mut Random) -> Journal {
     let length = random.pick(&[0, 1, 2, 3, 5, 9, 20, 64]);
     let glider = any_glider(random);
@@ -314,6 +314,9 @@ fn some_journal(random: &mut Random) -> Journal {
         });
     }
     calls.truncate(length);
+    if random.one_in(3) {
+        calls.push(Call::Seat(glider.any_seat(random)));
+    }
     run(&calls)
 }
 
@@ -354,6 +357,14 @@ struct List {
 }
 
 impl List {
+    /// The glider whose sheet is in force.
+    fn in_force(&self) -> Option<Glider> {
+        let sheet = self.journal.sheet()?;
+        self.gliders
+            .into_iter()
+            .find(|glider| glider.sheet == sheet)
+    }
+
     fn any_call(&self, random: &mut Random) -> Call {
         let glider = random.pick(&self.gliders);
         if random.below(100) < self.undos {
@@ -362,7 +373,7 @@ impl List {
         match random.below(23) {
             0..=2 => glider.weighing_call(random),
             3..=5 => Call::Install(glider.sheet),
-            6..=8 => Call::Seat(glider.any_seat(random)),
+            6..=8 => Call::Seat(self.in_force().unwrap_or(glider).any_seat(random)),
             9..=10 => edge_call(random, &glider, &self.journal),
             11 => {
                 let at = random.below(self.files.len() as u64) as usize;

@@ -636,7 +636,12 @@ impl Tried {
 
 /// Whether a front load keeps the limits at each of the arms with each of the waters.
 fn keeps_every_limit(sums: &Sums, sheet: &Sheet, tried: &Tried, p: i128, r: i128) -> bool {
-    let keeps_with = |v| tried.arms.iter().all(|arm| keeps(sums, sheet, *arm, p, r, v));
+    let keeps_with = |v| {
+        tried
+            .arms
+            .iter()
+            .all(|arm| keeps(sums, sheet, *arm, p, r, v))
+    };
     tried.waters.iter().all(|v| keeps_with(*v))
 }
 

@@ -1,10 +1,10 @@
 //! The paper's plates A to K, in half grams, the figures of document 000 that it
-//! quotes, what it says to be run, and what cards 1 and 2 of paper 02 add.
+//! quotes, what it says to be run, and what cards 1, 2 and 4 of paper 02 add.
 
 mod common;
 
 use common::Sides;
-use judge::paper::{Call, Change, Journal, Paired, Sheet, Weighing};
+use judge::paper::{Call, Change, Journal, Paired, Seat, Sheet, Weighing};
 use judge::run::{Calls, Direct, Fast};
 
 fn weigh(m: u64, p: u64, q: u64, a: i64, b: u64, n: u64) -> Call {
@@ -36,6 +36,10 @@ fn as_pair(call: &Call) -> Call {
 
 fn change(c: i64, arm: i64, flag: u64) -> Call {
     Call::Change(Change { c, arm, flag })
+}
+
+fn seat(lower: i64, higher: i64) -> Call {
+    Call::Seat(Seat { lower, higher })
 }
 
 /// The weighing of cases A, B and J.
@@ -389,6 +393,134 @@ fn a_row_for_nobody_is_blank() {
     }
 }
 
+/// Case G, by the first line of its placard.
+fn astir_with_seat(lower: i64, higher: i64) -> String {
+    let mut sides = Sides::new();
+    sides.accept(&astir());
+    sides.accept(&Call::Install(ASTIR));
+    sides.accept(&seat(lower, higher));
+    let placard = sides.placard_text();
+    let (smallest, largest) = range(&placard, 0);
+    format!("{smallest} {largest}")
+}
+
+/// The lower end bounds the load by the forward limit, the higher one by the safe
+/// aft limit.
+#[test]
+fn each_limit_has_its_own_end() {
+    for (lower, higher, range) in [
+        (-47_500, -47_500, "0071.000 0092.000"),
+        (-55_000, -40_000, "0077.000 0092.000"),
+        (-100_000, -47_500, "0071.000 0088.000"),
+        (-100_000, -37_500, "0080.000 0088.000"),
+        (-100_000, -30_000, "0088.000 0088.000"),
+        (-100_000, -29_000, "-------- --------"),
+        (-65_000, -64_000, "0060.000 0092.000"),
+        (-100_000, 41_625, "-------- --------"),
+        (-2_000_000, 2_000_000, "-------- --------"),
+    ] {
+        assert_eq!(astir_with_seat(lower, higher), range, "{lower} {higher}");
+    }
+}
+
+/// A seat of one arm is a sheet with that front arm.
+#[test]
+fn equal_ends() {
+    for front_arm in [-2_000_000, -60_000, -47_500, 25_000, 41_625, 2_000_000] {
+        let mut sides = Sides::new();
+        sides.accept(&astir());
+        sides.accept(&Call::Install(Sheet { front_arm, ..ASTIR }));
+        let placard = sides.placard_text();
+        sides.accept(&Call::Install(ASTIR));
+        sides.accept(&seat(front_arm, front_arm));
+        assert_eq!(sides.placard_text(), placard);
+    }
+}
+
+/// A glider whose centre is on a limit, with a gram in the seat: an end on that limit
+/// keeps it, and one a unit beyond does not, however far off the other end is.
+#[test]
+fn an_end_on_a_limit() {
+    let sheet = Sheet {
+        front_least: 1,
+        front_most: 1,
+        front_step: 1,
+        capacity: 0,
+        ..ASTIR
+    };
+    for (centre, lower, higher, blank) in [
+        (25_000, 25_000, 25_000, 0),
+        (25_000, 25_000, 41_625, 0),
+        (25_000, 24_999, 41_625, 1),
+        (25_000, 24_999, 24_999, 1),
+        (41_625, 41_625, 41_625, 0),
+        (41_625, 25_000, 41_625, 0),
+        (41_625, 25_000, 41_626, 1),
+        (41_625, 41_626, 41_626, 1),
+    ] {
+        let mut sides = Sides::new();
+        sides.accept(&weigh(1, 288_000, 0, centre, 1, 0));
+        sides.accept(&Call::Install(sheet));
+        sides.accept(&seat(lower, higher));
+        let counts = sides.placard(36).unwrap();
+        assert_eq!(counts.blank, blank, "{centre} {lower} {higher}");
+    }
+}
+
+/// Weighings and changes leave a seat in force. Another seat or a sheet, even an
+/// equal one, ends it, and taken back brings it back.
+#[test]
+fn until_the_next_sheet_or_seat() {
+    let mut sides = Sides::new();
+    // No weighing is asked for.
+    sides.accept(&Call::Install(ASTIR));
+    sides.accept(&seat(-100_000, -37_500));
+    for call in [astir(), change(1_000, 0, 0), as_pair(&astir())] {
+        sides.accept(&call);
+    }
+    let first = |sides: &Sides| {
+        let placard = sides.placard_text();
+        let (smallest, largest) = range(&placard, 0);
+        format!("{smallest} {largest}")
+    };
+    let adjusted = "0080.000 0088.000";
+    assert_eq!(first(&sides), adjusted);
+    for (call, other) in [
+        (Call::Install(ASTIR), "0071.000 0092.000"),
+        (seat(-55_000, -40_000), "0077.000 0092.000"),
+    ] {
+        sides.accept(&call);
+        assert_eq!(first(&sides), other);
+        sides.accept(&Call::Undo);
+        assert_eq!(first(&sides), adjusted);
+    }
+}
+
+/// Nine bytes, the lower end first, in files of version 2 alone.
+#[test]
+fn files_with_a_seat() {
+    let mut sides = Sides::new();
+    sides.accept(&Call::Install(ASTIR));
+    sides.accept(&seat(-100_000, 258));
+    let (old, new) = (sides.journal.file_as(1), sides.journal.file());
+    assert_eq!(new.len(), 6 + 61 + 9);
+    assert_eq!(new[67..], [5, 0xff, 0xfe, 0x79, 0x60, 0, 0, 1, 2]);
+    assert_eq!(sides.call(&Call::Read(old)), 12);
+    assert_eq!(sides.call(&Call::Read(new.clone())), 0);
+    assert_eq!(sides.journal.file(), new);
+    // Each as its call would be judged.
+    for entries in [
+        vec![sides.journal.entries[1]],
+        vec![sides.journal.entries[1], sides.journal.entries[0]],
+    ] {
+        let file = Journal { entries }.file();
+        assert_eq!(sides.call(&Call::Read(file)), 12);
+    }
+    let mut reversed = new;
+    reversed[68..72].fill(0x01);
+    assert_eq!(sides.call(&Call::Read(reversed)), 12);
+}
+
 #[test]
 fn the_64th_and_the_65th_entry() {
     let mut sides = Sides::new();
@@ -400,12 +532,18 @@ fn the_64th_and_the_65th_entry() {
     for call in [astir(), pair.clone(), Call::Install(ASTIR), change(1, 0, 0)] {
         assert_eq!(sides.call(&call), 9);
     }
+    assert_eq!(sides.call(&seat(0, 0)), 9);
     sides.accept(&Call::Undo);
     sides.accept(&pair);
     assert_eq!(sides.call(&pair), 9);
     sides.accept(&Call::Undo);
     sides.accept(&Call::Install(ASTIR));
     assert_eq!(sides.call(&change(1, 0, 0)), 9);
+    sides.accept(&Call::Undo);
+    sides.accept(&Call::Undo);
+    sides.accept(&Call::Install(ASTIR));
+    sides.accept(&seat(-47_500, -47_500));
+    assert_eq!(sides.call(&seat(-47_500, -47_500)), 9);
     for _ in 0..64 {
         sides.accept(&Call::Undo);
     }

@@ -1,7 +1,7 @@
 //! The direct and the fast functions against the paper on generated cases.
 
 use judge::generate::{case, Case};
-use judge::paper::{Call, Sheet};
+use judge::paper::{Call, Entry, Journal, Seat, Sheet};
 use judge::run::{Answers, By, Direct, Fast, Paper, Plate, Trial, WORK};
 
 const CASES: u64 = 20_000;
@@ -58,6 +58,56 @@ impl Card2 {
     }
 }
 
+/// Seats accepted and refused, files with a seat accepted, and placards that the
+/// lower end, the middle or the higher end of their seat would change if it were the
+/// only arm.
+#[derive(Default)]
+struct Card4 {
+    calls: [u64; 3],
+    ends: [u64; 3],
+}
+
+impl Card4 {
+    fn add(&mut self, calls: &[Call], answers: &Answers) {
+        for (call, number) in calls.iter().zip(&answers.numbers) {
+            match (call, number) {
+                (Call::Seat(_), 0) => self.calls[0] += 1,
+                (Call::Seat(_), _) => self.calls[1] += 1,
+                (Call::Read(file), 0) => {
+                    let journal = Journal::read(file).unwrap();
+                    self.calls[2] += u64::from(journal.seat().is_some());
+                }
+                _ => {}
+            }
+        }
+    }
+
+    fn add_ends(&mut self, journal: &Journal, plate: &[u8]) {
+        let Some(Seat { lower, higher }) = journal.seat() else {
+            return;
+        };
+        let arms = [lower, (lower + higher) / 2, higher];
+        for (count, arm) in self.ends.iter_mut().zip(arms) {
+            *count += u64::from(plate_at(journal, arm) != plate);
+        }
+    }
+}
+
+/// The lines of a placard if its seat had one arm.
+fn plate_at(journal: &Journal, arm: i64) -> Vec<u8> {
+    let mut journal = journal.clone();
+    let is_seat = |entry: &&mut Entry| matches!(entry, Entry::Seat(_));
+    let seat = journal.entries.iter_mut().rev().find(is_seat).unwrap();
+    *seat = Entry::Seat(Seat {
+        lower: arm,
+        higher: arm,
+    });
+    let mut plate = vec![0; 9_216];
+    let counts = journal.placard(&mut plate).unwrap();
+    plate.truncate(counts.bytes);
+    plate
+}
+
 /// What the paper, the direct functions and the fast ones all answer, and the
 /// paper's record; the placard is none where plain loops would take too long.
 fn same(trial: &Trial, case: &Case) -> (Paper, Answers, Option<Plate>) {
@@ -79,6 +129,7 @@ fn same(trial: &Trial, case: &Case) -> (Paper, Answers, Option<Plate>) {
 fn all_answer_as_the_paper_does() {
     let mut numbers = Numbers::default();
     let (mut card_1, mut card_2) = (Card1::default(), Card2::default());
+    let mut card_4 = Card4::default();
     let (mut compared, mut rows, mut blank) = (0, 0, 0);
     for index in 0..CASES {
         let case = case(SEED, index);
@@ -87,12 +138,14 @@ fn all_answer_as_the_paper_does() {
         };
         numbers.add(&answers, &plate);
         card_1.add(&case.calls, &answers);
+        card_4.add(&case.calls, &answers);
         compared += 1;
         if let Ok(counts) = plate.answer {
             rows += counts.rows;
             blank += counts.blank;
-            let sheet = paper.journal.and_then(|journal| journal.sheet());
-            card_2.add(&sheet.unwrap(), &plate.bytes[..counts.bytes]);
+            let (journal, lines) = (paper.journal.unwrap(), &plate.bytes[..counts.bytes]);
+            card_2.add(&journal.sheet().unwrap(), lines);
+            card_4.add_ends(&journal, lines);
         }
     }
     // The cases are worth something only while they are spread well.
@@ -111,6 +164,11 @@ fn all_answer_as_the_paper_does() {
         card_2.0.iter().all(|count| *count > 5_000),
         "{:?}",
         card_2.0
+    );
+    let Card4 { calls, ends } = card_4;
+    assert!(
+        calls.iter().chain(&ends).all(|count| *count > 500),
+        "{calls:?} {ends:?}"
     );
     assert!(rows > 300_000 && blank > rows / 5 && blank < rows / 2);
 }

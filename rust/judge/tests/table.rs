@@ -4,7 +4,7 @@
 mod common;
 
 use common::Sides;
-use judge::paper::{Call, Change, Paired, Sheet, Weighing};
+use judge::paper::{Call, Change, Paired, Seat, Sheet, Weighing};
 use judge::run::{Calls, Direct, Fast};
 
 const WEIGHING: Weighing = Weighing {
@@ -51,6 +51,11 @@ const CHANGE: Change = Change {
     flag: 1,
 };
 
+const SEAT: Seat = Seat {
+    lower: -65_000,
+    higher: -55_000,
+};
+
 /// The number of a call on a record with one weighing.
 fn number(call: Call) -> u64 {
     let mut sides = Sides::new();
@@ -86,6 +91,13 @@ fn install(s: Sheet) -> u64 {
 
 fn change(c: Change) -> u64 {
     number(Call::Change(c))
+}
+
+/// The number of a seat behind a sheet.
+fn seat(s: Seat) -> u64 {
+    let mut sides = Sides::new();
+    sides.accept(&Call::Install(SHEET));
+    sides.call(&Call::Seat(s))
 }
 
 fn full() -> Sides {
@@ -184,6 +196,26 @@ fn change_is_refused_in_the_order_9_7_2_6_3() {
     assert_eq!(change(c), 3);
     c.c = -100_000;
     assert_eq!(change(c), 0);
+}
+
+#[test]
+fn seat_is_refused_in_the_order_9_8_2() {
+    let mut s = Seat {
+        lower: 2_000_001,
+        higher: -2_000_001,
+    };
+    assert_eq!(full().call(&Call::Seat(s)), 9);
+    assert_eq!(Sides::new().call(&Call::Seat(s)), 8);
+    // A weighing does not stand for a sheet.
+    assert_eq!(number(Call::Seat(s)), 8);
+    assert_eq!(number(Call::Seat(SEAT)), 8);
+    assert_eq!(seat(s), 2);
+    s.lower = 2_000_000;
+    assert_eq!(seat(s), 2);
+    s.higher = 1_999_999;
+    assert_eq!(seat(s), 2);
+    s.higher = 2_000_000;
+    assert_eq!(seat(s), 0);
 }
 
 const TOP: u64 = 2_000_000;
@@ -300,6 +332,20 @@ fn rear_and_water_ranges() {
     assert_eq!(water(0, 0), 5);
     assert_eq!(water(0, 2_000_001), 5);
     assert_eq!(water(u64::MAX, 1), 4);
+}
+
+#[test]
+fn seat_ranges() {
+    let ends = |lower, higher| seat(Seat { lower, higher });
+    assert_eq!(ends(-2_000_000, 2_000_000), 0);
+    assert_eq!(ends(-2_000_001, 2_000_000), 2);
+    assert_eq!(ends(-2_000_000, 2_000_001), 2);
+    assert_eq!(ends(-2_000_000, -2_000_000), 0);
+    assert_eq!(ends(2_000_001, 2_000_001), 2);
+    assert_eq!(ends(5, 6), 0);
+    assert_eq!(ends(5, 5), 0);
+    assert_eq!(ends(6, 5), 2);
+    assert_eq!(ends(0, -1), 2);
 }
 
 #[test]
@@ -434,6 +480,17 @@ fn change_arguments_of_any_size() {
 }
 
 #[test]
+fn seat_arguments_of_any_size() {
+    for value in BIG_SIGNED {
+        let lower = value;
+        assert_eq!(seat(Seat { lower, ..SEAT }), 2);
+        let higher = value;
+        assert_eq!(seat(Seat { higher, ..SEAT }), 2);
+        assert_eq!(seat(Seat { lower, higher }), 2);
+    }
+}
+
+#[test]
 fn placard_and_centre_need_their_entries() {
     let mut sides = Sides::new();
     assert_eq!(sides.centre(), Err(7));
@@ -514,8 +571,9 @@ fn a_lent_buffer_of_version_1() {
 fn lend_a_buffer_of_version_1<C: Calls>() {
     let mut sides = Sides::new();
     sides.accept(&Call::Weigh(WEIGHING));
+    sides.accept(&Call::Install(SHEET));
     let mut lent = sides.journal.file_as(1);
-    lent.resize(150, 9);
+    lent.resize(210, 9);
     assert_eq!(C::check(&lent), 0);
     assert_eq!(C::centre(&lent), sides.centre());
     for call in [
@@ -526,18 +584,23 @@ fn lend_a_buffer_of_version_1<C: Calls>() {
         }),
         Call::Install(Sheet { dry: 0, ..SHEET }),
         Call::Change(Change { c: 0, ..CHANGE }),
+        Call::Seat(Seat {
+            higher: 0,
+            lower: 1,
+        }),
         Call::Read(vec![0; 6]),
     ] {
         let mut after = lent.clone();
         assert_ne!(C::call(&mut after, &call), 0);
         assert_eq!(after, lent);
     }
-    let old = lent[..28].to_vec();
+    let old = lent[..89].to_vec();
     for call in [
         Call::Weigh(WEIGHING),
         Call::Pair(PAIRED),
         Call::Install(SHEET),
         Call::Change(CHANGE),
+        Call::Seat(SEAT),
         Call::Undo,
         Call::Read(old),
     ] {

@@ -4,7 +4,8 @@
 
 mod common;
 
-use common::{case_g, of_version_1, FREE, G_PAIRED, G_SHEET, G_WEIGHING, H_CHANGE, VERSION};
+use common::{case_g, of_version_1, FREE, VERSION};
+use common::{G_PAIRED, G_SEAT, G_SHEET, G_WEIGHING, H_CHANGE};
 use nodhulika::{lent, Record, Refusal};
 
 /// Numbers from a seed, the same in every run (xorshift).
@@ -25,6 +26,9 @@ fn buffer_from(numbers: &mut Numbers) -> Vec<u8> {
     let mut record = case_g();
     if numbers.below(3) == 0 {
         assert_eq!(record.weigh_paired(&G_PAIRED), Ok(()));
+    }
+    if numbers.below(3) == 0 {
+        assert_eq!(record.seat(&G_SEAT), Ok(()));
     }
     for _ in 0..numbers.below(4) {
         assert_eq!(record.change(&H_CHANGE), Ok(()));
@@ -67,6 +71,7 @@ fn any_bytes_will_do() {
         call_on(&buffer, |b| lent::weigh_paired(b, &G_PAIRED));
         call_on(&buffer, |b| lent::sheet(b, &G_SHEET));
         call_on(&buffer, |b| lent::change(b, &H_CHANGE));
+        call_on(&buffer, |b| lent::seat(b, &G_SEAT));
         call_on(&buffer, lent::undo);
         let file = buffer_from(&mut numbers);
         call_on(&buffer, |b| lent::read(b, &file));

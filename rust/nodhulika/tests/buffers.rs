@@ -2,10 +2,10 @@
 
 mod common;
 
-use common::{case_g, full, lent, CHANGE, FREE, HEADER, PAIRED, SHEET, WEIGHING};
-use common::{G_PAIRED, G_PLACARD, G_SHEET, G_WEIGHING, H_CHANGE};
+use common::{case_g, full, lent, CHANGE, FREE, HEADER, PAIRED, SEAT, SHEET, WEIGHING};
+use common::{G_PAIRED, G_PLACARD, G_SEAT, G_SHEET, G_WEIGHING, H_CHANGE};
 use nodhulika::lent::{
-    change, check, file, fresh, placard, read, sheet, undo, weigh, weigh_paired,
+    change, check, file, fresh, placard, read, seat, sheet, undo, weigh, weigh_paired,
 };
 use nodhulika::{Record, Refusal, Sheet, LONGEST_FILE, LONGEST_PLACARD};
 
@@ -35,6 +35,7 @@ fn an_entry_takes_its_own_bytes_and_no_more() {
     grows(&record, PAIRED, |buffer| weigh_paired(buffer, &G_PAIRED));
     grows(&record, SHEET, |buffer| sheet(buffer, &G_SHEET));
     grows(&record, CHANGE, |buffer| change(buffer, &H_CHANGE));
+    grows(&record, SEAT, |buffer| seat(buffer, &G_SEAT));
 }
 
 #[test]
@@ -90,6 +91,9 @@ fn a_place_taken_back_is_used_again() {
     assert_eq!(record.undo(), Ok(()));
     assert_eq!(record.change(&H_CHANGE), Ok(()));
     assert_eq!(record.change(&H_CHANGE), Err(Refusal::Full));
+    assert_eq!(record.undo(), Ok(()));
+    assert_eq!(record.seat(&G_SEAT), Ok(()));
+    assert_eq!(record.seat(&G_SEAT), Err(Refusal::Full));
     for _ in 0..64 {
         assert_eq!(record.undo(), Ok(()));
     }
@@ -129,7 +133,9 @@ fn a_record_is_read_back_from_its_own_file() {
     assert_eq!(changed.change(&H_CHANGE), Ok(()));
     let mut twice = changed.clone();
     assert_eq!(twice.weigh_paired(&G_PAIRED), Ok(()));
-    for record in [Record::new(), case_g(), changed, twice, full()] {
+    let mut adjusted = changed.clone();
+    assert_eq!(adjusted.seat(&G_SEAT), Ok(()));
+    for record in [Record::new(), case_g(), changed, twice, adjusted, full()] {
         let again = Record::from_file(record.as_bytes()).unwrap();
         assert_eq!(again, record);
         assert_eq!(again.as_bytes(), record.as_bytes());

@@ -1,10 +1,11 @@
 //! The paper's worked cases, A to K, with total and moment in half grams, a
-//! glider weighed twice, and rows for nobody.
+//! glider weighed twice, rows for nobody, and adjustable seats.
 
 mod common;
 
-use common::{case_g, record_of, station, G_PAIRED, G_PLACARD, G_SHEET, G_WEIGHING, H_CHANGE};
-use nodhulika::{CentreOfGravity, Counts, Paired, Record, Sheet, Station, Weighing, LINE};
+use common::{case_g, record_of, station, H_CHANGE};
+use common::{G_PAIRED, G_PLACARD, G_SEAT, G_SEAT_PLACARD, G_SHEET, G_WEIGHING};
+use nodhulika::{CentreOfGravity, Counts, Paired, Record, Seat, Sheet, Station, Weighing, LINE};
 
 const A: Weighing = weighing(Weighing::WHEEL_AND_TAIL, [310_000, 29_900], 9_500, 550_000);
 
@@ -228,4 +229,50 @@ fn nobody_in_the_front_seat() {
     let record = record_of(&A, &sheet);
     assert_eq!(record.placard_text().unwrap(), plate);
     assert_eq!(record.placard(&mut [0; 3 * LINE]), Ok(counts(3, 1)));
+}
+
+/// Each end by the limit that it is the worse for.
+#[test]
+fn every_arm_of_a_seat_counts() {
+    for (lower, higher, range) in [
+        (-47_500, -47_500, "0071.000 0092.000"),
+        (-55_000, -40_000, "0077.000 0092.000"),
+        (-100_000, -47_500, "0071.000 0088.000"),
+        (-100_000, -30_000, "0088.000 0088.000"),
+        (-100_000, -29_000, "-------- --------"),
+    ] {
+        let mut record = case_g();
+        assert_eq!(record.seat(&Seat { lower, higher }), Ok(()));
+        let line = format!("0000.000 0000.000 {range}");
+        let text = record.placard_text().unwrap();
+        assert_eq!(text.lines().next(), Some(&line[..]));
+    }
+}
+
+/// Weighings and changes leave a seat in force. Another seat or a sheet, even an
+/// equal one, ends it, and taken back brings it back.
+#[test]
+fn until_the_next_sheet_or_seat() {
+    let mut record = Record::new();
+    assert_eq!(record.install(&G_SHEET), Ok(()));
+    assert_eq!(record.seat(&G_SEAT), Ok(()));
+    assert_eq!(record.weigh_paired(&G_PAIRED), Ok(()));
+    assert_eq!(record.change(&H_CHANGE), Ok(()));
+    assert_eq!(record.weigh(&G_WEIGHING), Ok(()));
+    assert_eq!(record.placard_text().unwrap(), G_SEAT_PLACARD);
+
+    assert_eq!(record.install(&G_SHEET), Ok(()));
+    assert_eq!(record.placard_text().unwrap(), G_PLACARD);
+    assert_eq!(record.undo(), Ok(()));
+    assert_eq!(record.placard_text().unwrap(), G_SEAT_PLACARD);
+
+    let arm = G_SHEET.front.arm;
+    let fixed = Seat {
+        lower: arm,
+        higher: arm,
+    };
+    assert_eq!(record.seat(&fixed), Ok(()));
+    assert_eq!(record.placard_text().unwrap(), G_PLACARD);
+    assert_eq!(record.undo(), Ok(()));
+    assert_eq!(record.placard_text().unwrap(), G_SEAT_PLACARD);
 }

@@ -154,7 +154,7 @@ fn declared_in_header(text: &str) -> Declared {
 #[test]
 fn all_three_declare_the_same() {
     let exported = declared_in_rattle(&rattle());
-    assert_eq!(exported.len(), 10, "{exported:?}");
+    assert_eq!(exported.len(), 11, "{exported:?}");
     assert_eq!(declared_in_header(&header()), exported);
     assert_eq!(declared_in_rust(&rust()), exported);
 }
@@ -174,6 +174,10 @@ fn a_declaration_that_drifts_is_caught() {
         ("uint64_t m, uint64_t p", "uint64_t p, uint64_t m"),
         ("uint64_t p2, uint64_t q2", "uint64_t q2, uint64_t p2"),
         ("int64_t c, int64_t arm", "int64_t c, uint64_t arm"),
+        (
+            "int64_t lower, int64_t higher",
+            "int64_t higher, int64_t lower",
+        ),
         ("const uint8_t *file", "uint8_t *file"),
         (", size_t out_length", ""),
         ("uint64_t nodhulika_undo", "int64_t nodhulika_undo"),
@@ -183,6 +187,7 @@ fn a_declaration_that_drifts_is_caught() {
         ("front_least: u64", "front_most: u64"),
         ("a: i64", "a: u64"),
         ("p2: u64", "q2: u64"),
+        ("lower: i64, higher: i64", "higher: i64, lower: i64"),
         ("answer: *mut u8", "answer: *const u8"),
         ("fn nodhulika_undo(", "fn nodhulika_redo("),
     ];
@@ -191,6 +196,7 @@ fn a_declaration_that_drifts_is_caught() {
         ("file: &[u8]", "file: &mut [u8]"),
         ("arm: i64, flag: u64", "flag: u64, arm: i64"),
         ("flag: u64) -> u64", "flag: u64) -> i64"),
+        ("lower: i64, higher: i64", "lower: i64, higher: u64"),
     ];
     caught(&rattle(), declared_in_rattle, &in_rattle);
 }

@@ -3,8 +3,9 @@
 
 mod common;
 
-use common::{case_g, of_version_1, station, FREE, G_PAIRED, G_SHEET, G_WEIGHING, H_CHANGE};
-use nodhulika::{lent, Change, Paired, Record, Refusal, Sheet, Weighing};
+use common::{case_g, of_version_1, station, FREE};
+use common::{G_PAIRED, G_SEAT, G_SHEET, G_WEIGHING, H_CHANGE};
+use nodhulika::{lent, Change, Paired, Record, Refusal, Seat, Sheet, Weighing};
 
 const WEIGHING: Weighing = Weighing {
     m: Weighing::JURY_BALLAST,
@@ -45,6 +46,11 @@ const CHANGE: Change = Change {
     flag: Change::NON_LIFTING,
 };
 
+const SEAT: Seat = Seat {
+    lower: -60_001,
+    higher: 40_002,
+};
+
 /// Numbers as the file has them: four bytes each, big-endian, two's complement.
 fn four_bytes_each(numbers: &[i64]) -> Vec<u8> {
     let bytes_of = |&number| i32::try_from(number).unwrap().to_be_bytes();
@@ -67,8 +73,9 @@ fn every_number_stands_in_its_place() {
     assert_eq!(record.change(&Change { c: 4_501, ..CHANGE }), Ok(()));
     assert_eq!(record.change(&CHANGE), Ok(()));
     assert_eq!(record.weigh_paired(&PAIRED), Ok(()));
+    assert_eq!(record.seat(&SEAT), Ok(()));
 
-    let mut file = vec![0, 0, 0, 2 + 22 + 61 + 3 * 10 + 30, 2, 6];
+    let mut file = vec![0, 0, 0, 2 + 22 + 61 + 3 * 10 + 30 + 9, 2, 7];
     file.extend([1, 4]);
     file.extend(four_bytes_each(&[460_001, 15_002, -3_003, 10_304, 5]));
     file.push(2);
@@ -86,6 +93,8 @@ fn every_number_stands_in_its_place() {
     file.extend([4, 3]);
     file.extend(four_bytes_each(&[360_001, 15_002, 360_103, 14_904]));
     file.extend(four_bytes_each(&[-2_005, 9_306, 7]));
+    file.push(5);
+    file.extend(four_bytes_each(&[-60_001, 40_002]));
     assert_eq!(record.as_bytes(), file);
 }
 
@@ -102,12 +111,15 @@ fn a_file_of_version_1_is_read_and_written_anew() {
 }
 
 #[test]
-fn version_1_has_no_paired_weighings_and_there_is_no_version_3() {
-    let mut record = case_g();
-    assert_eq!(record.weigh_paired(&G_PAIRED), Ok(()));
-    let old = of_version_1(record.as_bytes());
-    assert_eq!(Record::from_file(&old), Err(Refusal::File));
-    assert_eq!(lent::check(&old), Err(Refusal::File));
+fn version_1_has_no_pairs_and_no_seats_and_there_is_no_version_3() {
+    let (mut twice, mut adjusted) = (case_g(), case_g());
+    assert_eq!(twice.weigh_paired(&G_PAIRED), Ok(()));
+    assert_eq!(adjusted.seat(&G_SEAT), Ok(()));
+    for record in [twice, adjusted] {
+        let old = of_version_1(record.as_bytes());
+        assert_eq!(Record::from_file(&old), Err(Refusal::File));
+        assert_eq!(lent::check(&old), Err(Refusal::File));
+    }
     for version in [0, 3, 255] {
         let mut other = case_g().as_bytes().to_vec();
         other[4] = version;
@@ -126,6 +138,10 @@ fn old_buffer() -> Vec<u8> {
 fn a_lent_file_of_version_1_is_taken_as_it_is() {
     const LIGHT: Paired = Paired { p2: 0, ..G_PAIRED };
     const NOTHING: Change = Change { c: 0, ..H_CHANGE };
+    const REVERSED: Seat = Seat {
+        lower: 1,
+        higher: 0,
+    };
     let buffer = old_buffer();
     let old = of_version_1(case_g().as_bytes());
     assert_eq!(lent::file(&buffer), Ok(&old[..]));
@@ -136,6 +152,7 @@ fn a_lent_file_of_version_1_is_taken_as_it_is() {
     for call in [
         |b: &mut [u8]| lent::weigh_paired(b, &LIGHT),
         |b: &mut [u8]| lent::change(b, &NOTHING),
+        |b: &mut [u8]| lent::seat(b, &REVERSED),
         |b: &mut [u8]| lent::read(b, &[]),
     ] {
         let mut after = buffer.clone();
@@ -151,6 +168,7 @@ fn the_first_call_that_changes_it_makes_it_version_2() {
         |b: &mut [u8]| lent::weigh_paired(b, &G_PAIRED),
         |b: &mut [u8]| lent::sheet(b, &G_SHEET),
         |b: &mut [u8]| lent::change(b, &H_CHANGE),
+        |b: &mut [u8]| lent::seat(b, &G_SEAT),
         |b: &mut [u8]| lent::undo(b),
         |b: &mut [u8]| lent::read(b, &of_version_1(case_g().as_bytes())),
     ] {

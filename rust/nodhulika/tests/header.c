@@ -1,5 +1,5 @@
 /* What the header defines itself: its two inline functions, and what they read
- * of a record and of an answer. */
+ * of a record and of an answer. And a seat's ends, as C passes them. */
 #include <stdio.h>
 #include <stdlib.h>
 
@@ -67,10 +67,35 @@ static void half_grams(void)
     EXPECT(nodhulika_answer_number(answer, 2) == 0);
 }
 
+/* Two grams on the datum, and one in a seat that lies between two arms: it must
+ * stay between the limits at both. */
+static void seat_ends(void)
+{
+    uint8_t record[128], out[NODHULIKA_LINE], answer[NODHULIKA_ANSWER];
+
+    EXPECT(nodhulika_fresh(record, sizeof record) == NODHULIKA_OK);
+    EXPECT(nodhulika_weigh(record, sizeof record, 1, 2, 0, 0, 1, 0) ==
+           NODHULIKA_OK);
+    EXPECT(nodhulika_seat(record, sizeof record, -3, 2) == NODHULIKA_NO_SHEET);
+    EXPECT(nodhulika_sheet(record, sizeof record, -1, 1, 3, 3, 0, 0, 1, 1, 1,
+                           0, 0, 1, 0, 0, 1) == NODHULIKA_OK);
+    EXPECT(nodhulika_seat(record, sizeof record, 2, -3) == NODHULIKA_ARM);
+    EXPECT(nodhulika_seat(record, sizeof record, -3, 2) == NODHULIKA_OK);
+    EXPECT(nodhulika_file_length(record) == 6 + 22 + 61 + 9);
+    EXPECT(nodhulika_placard(record, sizeof record, out, sizeof out, answer,
+                             sizeof answer) == NODHULIKA_OK);
+    EXPECT(nodhulika_answer_number(answer, 2) == 0);
+    EXPECT(nodhulika_seat(record, sizeof record, -4, 2) == NODHULIKA_OK);
+    EXPECT(nodhulika_placard(record, sizeof record, out, sizeof out, answer,
+                             sizeof answer) == NODHULIKA_OK);
+    EXPECT(nodhulika_answer_number(answer, 2) == 1);
+}
+
 int main(void)
 {
     file_lengths();
     answer_numbers();
     half_grams();
+    seat_ends();
     return EXIT_SUCCESS;
 }

@@ -2,11 +2,13 @@
 
 mod common;
 
-use common::{case_g, full, lent, of_version_1, FREE, G_PAIRED, G_SHEET, G_WEIGHING, H_CHANGE};
+use common::{case_g, full, lent, of_version_1, FREE};
+use common::{G_PAIRED, G_SEAT, G_SHEET, G_WEIGHING, H_CHANGE};
 use nodhulika::lent::{
-    centre, change, check, fresh, placard, read, sheet, undo, weigh, weigh_paired,
+    centre, change, check, fresh, placard, read, seat, sheet, undo, weigh, weigh_paired,
 };
-use nodhulika::{Change, Paired, Record, Refusal, Sheet, UnknownNumber, Weighing, LONGEST_FILE};
+use nodhulika::{Change, Paired, Record, Refusal, Seat, Sheet, Weighing};
+use nodhulika::{UnknownNumber, LONGEST_FILE};
 
 /// Makes the call on the record at the front of a long buffer: it gets this
 /// refusal, and the buffer stays as it was, free bytes included.
@@ -47,6 +49,13 @@ fn change_refused(refusal: Refusal, edit: impl Fn(&mut Change)) {
     let mut part = H_CHANGE;
     edit(&mut part);
     refused(&case_g(), refusal, |buffer| change(buffer, &part));
+}
+
+/// The seat of case G with something changed in it.
+fn seat_refused(refusal: Refusal, edit: impl Fn(&mut Seat)) {
+    let mut adjusted = G_SEAT;
+    edit(&mut adjusted);
+    refused(&case_g(), refusal, |buffer| seat(buffer, &adjusted));
 }
 
 #[test]
@@ -91,11 +100,17 @@ fn number_2_arm() {
         sheet_refused(Refusal::Arm, |s| s.front.arm = arm);
         sheet_refused(Refusal::Arm, |s| s.rear.arm = arm);
         sheet_refused(Refusal::Arm, |s| s.water.arm = arm);
+        seat_refused(Refusal::Arm, |s| s.lower = arm);
+        seat_refused(Refusal::Arm, |s| s.higher = arm);
+        seat_refused(Refusal::Arm, |s| (s.lower, s.higher) = (arm, arm));
     }
     for b in [0, 2_000_001, u64::MAX] {
         weighing_refused(Refusal::Arm, |w| w.b = b);
         pair_refused(Refusal::Arm, |x| x.b = b);
     }
+    // Reversed ends.
+    seat_refused(Refusal::Arm, |s| s.lower = s.higher + 1);
+    seat_refused(Refusal::Arm, |s| s.higher = s.lower - 1);
 }
 
 #[test]
@@ -179,6 +194,9 @@ fn number_8_no_sheet() {
         placard(buffer, &mut out)
     });
     assert_eq!(out, [FREE; 108]);
+    for record in [Record::new(), record] {
+        refused(&record, Refusal::NoSheet, |buffer| seat(buffer, &G_SEAT));
+    }
 }
 
 #[test]
@@ -190,6 +208,7 @@ fn number_9_full() {
     });
     refused(&record, Refusal::Full, |buffer| sheet(buffer, &G_SHEET));
     refused(&record, Refusal::Full, |buffer| change(buffer, &H_CHANGE));
+    refused(&record, Refusal::Full, |buffer| seat(buffer, &G_SEAT));
 }
 
 #[test]
@@ -207,6 +226,7 @@ fn number_11_short() {
         |buffer: &mut [u8]| weigh_paired(buffer, &G_PAIRED),
         |buffer: &mut [u8]| sheet(buffer, &G_SHEET),
         |buffer: &mut [u8]| change(buffer, &H_CHANGE),
+        |buffer: &mut [u8]| seat(buffer, &G_SEAT),
     ] {
         let mut buffer = file.to_vec();
         assert_eq!(call(&mut buffer), Err(Refusal::Short));
@@ -229,6 +249,8 @@ fn number_11_short() {
 fn number_12_file() {
     let mut twice = Record::new();
     assert_eq!(twice.weigh_paired(&G_PAIRED), Ok(()));
+    let mut adjusted = case_g();
+    assert_eq!(adjusted.seat(&G_SEAT), Ok(()));
     for bytes in [
         &[][..],
         &[0; 3],
@@ -238,6 +260,9 @@ fn number_12_file() {
         &[0, 0, 0, 2, 1, 1],
         &[0, 0, 0, 2, 2, 1],
         &of_version_1(twice.as_bytes()),
+        &of_version_1(adjusted.as_bytes()),
+        // A seat and no sheet before it.
+        &[0, 0, 0, 11, 2, 1, 5, 0, 0, 0, 0, 0, 0, 0, 0],
     ] {
         let mut out = [FREE; 108];
         assert_eq!(placard(bytes, &mut out), Err(Refusal::File));
@@ -251,6 +276,7 @@ fn number_12_file() {
             |buffer: &mut [u8]| weigh_paired(buffer, &G_PAIRED),
             |buffer: &mut [u8]| sheet(buffer, &G_SHEET),
             |buffer: &mut [u8]| change(buffer, &H_CHANGE),
+            |buffer: &mut [u8]| seat(buffer, &G_SEAT),
             |buffer: &mut [u8]| undo(buffer),
         ] {
             let mut buffer = bytes.to_vec();
@@ -290,10 +316,20 @@ fn the_first_in_order_is_given() {
     refused(&Record::new(), Refusal::Unweighed, |buffer| {
         change(buffer, &wrong)
     });
+    let reversed = Seat {
+        lower: i64::MAX,
+        higher: i64::MIN,
+    };
+    refused(&full(), Refusal::Full, |buffer| seat(buffer, &reversed));
+    refused(&Record::new(), Refusal::NoSheet, |buffer| {
+        seat(buffer, &reversed)
+    });
     // A buffer that is also too short for the entry.
     let mut tight = case_g().as_bytes().to_vec();
     assert_eq!(change(&mut tight, &wrong), Err(Refusal::Arm));
     assert_eq!(change(&mut tight[1..], &wrong), Err(Refusal::File));
+    assert_eq!(seat(&mut tight, &reversed), Err(Refusal::Arm));
+    assert_eq!(seat(&mut tight[1..], &reversed), Err(Refusal::File));
     assert_eq!(tight, case_g().as_bytes());
 }
 
@@ -315,6 +351,8 @@ fn an_owned_record_is_left_by_a_refusal() {
         record.change(&Change { c: 0, ..H_CHANGE }),
         Err(Refusal::Change)
     );
+    let lower = G_SEAT.higher + 1;
+    assert_eq!(record.seat(&Seat { lower, ..G_SEAT }), Err(Refusal::Arm));
     assert_eq!(record.read(&[]), Err(Refusal::File));
     assert_eq!(record, before);
 }

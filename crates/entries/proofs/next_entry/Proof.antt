@@ -37,6 +37,12 @@ add-paired-from c = search needs
 paired-from-requires : tie.Need-paired-from-requires
 paired-from-requires c κs = search needs
 
+add-seat-from : tie.Need-add-seat-from
+add-seat-from c = search needs
+
+seat-from-requires : tie.Need-seat-from-requires
+seat-from-requires c κs = search needs
+
 returns-2 : tie.Need-returns-2
 unfolding layoutOf
 returns-2 c =
@@ -70,11 +76,19 @@ returns-5 c =
     kind-got (a .s .now) (a .at) 4 _ (t .if1 .left) (b .match .keys4) refl (c .paired-from .ensures)
 
 returns-6 : tie.Need-returns-6
+unfolding layoutOf
 returns-6 c =
+    let b = c .before in
+    let t = b .before .before in
+    let a = t .before .before .args in
+    kind-got (a .s .now) (a .at) 5 _ (t .if1 .left) (b .match .keys5) refl (c .seat-from .ensures)
+
+returns-7 : tie.Need-returns-7
+returns-7 c =
     let t = c .before .before in
     let a = t .before .before .args in
     let m = c .match .rest in
-    no-kind-got (a .s .now) (a .at) _ (t .if1 .left) refl (m .0 .0 .0 .1) (m .0 .0 .1) (m .0 .1) (m .1)
+    no-kind-got (a .s .now) (a .at) _ (t .if1 .left) refl (m .0 .0 .0 .0 .1) (m .0 .0 .0 .1) (m .0 .0 .1) (m .0 .1) (m .1)
 
 pub next-entry-spec : {M : Type 1} → statement M
 next-entry-spec =
@@ -90,8 +104,11 @@ next-entry-spec =
     change-from-requires
     add-paired-from
     paired-from-requires
+    add-seat-from
+    seat-from-requires
     returns-2
     returns-3
     returns-4
     returns-5
-    returns-6)
+    returns-6
+    returns-7)

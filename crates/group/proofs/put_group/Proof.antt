@@ -27,7 +27,7 @@ use Rattle.group.proofs.put_group.Tie as tie
 
 abbrev Inv-loop : tie.InvT-loop
 Inv-loop s t j waters fields out₀ rear x₀ span field first none₀ k₀ out x none k =
-    (k ≤ waters) × (none ≤ k) × (length out ≡ length out₀) × Room k x × ((b : Balance) → Beside s b rear 0 x₀ → Beside s b rear (k * s .water .step) x × (NoneOf s b rear span → GroupTo s b first k none out₀ out))
+    (k ≤ waters) × (none ≤ k) × (length out ≡ length out₀) × Room k x × ((b : Balance) → Beside s b rear 0 x₀ → Beside s b rear (k * s .water .step) x × (NoneOf s (t .front .seat) b rear span → GroupTo s (t .front .seat) b first k none out₀ out))
 
 abbrev μ-loop : tie.MeasureT-loop
 μ-loop s t j waters fields out₀ rear x₀ span field first none₀ k₀ out x none k = waters - k
@@ -65,7 +65,7 @@ with-none-requires : tie.Need-with-none-requires Inv-loop μ-loop
 with-none-requires c κs =
     let e = c .before in
     let b = e .before .before .before in
-    (b .pre .0, b .pre .1 .seat, room-least 0 256 (e .beside .result) (omega arith) (e .beside .ensures .0))
+    (b .pre .0, b .pre .1 .front, room-least 0 256 (e .beside .result) (omega arith) (e .beside .ensures .0))
 
 field-requires : tie.Need-field-requires Inv-loop μ-loop
 field-requires c κs = omega (arith, rear-most (c .before .before .before .before .before))
@@ -84,7 +84,7 @@ loop-holds c =
       omega arith,
       refl,
       e .beside .ensures .0,
-      λ g h. (rw z h, λ none. group-begun (a .s) g _ (a .out .now)),
+      λ g h. (rw z h, λ none. group-begun (a .s) (a .t .front .seat) g _ (a .out .now)),
     )
 
 carried-requires : tie.Need-carried-requires Inv-loop μ-loop
@@ -168,10 +168,10 @@ loop-again c =
         rw next (x .carried .ensures .1 s g rear water (inv .4 g h .0) (b .pre .1 .water)),
         λ none.
             let put = p .put-row .ensures .1 g rear water (f .field .ensures) field (inv .4 g h .0) none in
-            group-more s g (a .j * a .waters) k (m .loop .none) (p .put-row .result) (a .out .now) (m .loop .out) _ (inv .4 g h .1 none)
+            group-more s (a .t .front .seat) g (a .j * a .waters) k (m .loop .none) (p .put-row .result) (a .out .now) (m .loop .out) _ (inv .4 g h .1 none)
             (omega (arith, room b, b .pre .6))
-            (put .0 ∙ ap blanks (row-in s (a .waters) (b .pre .3) (a .j) k taken g))
-            (put .1 ∙ ap (λ y. written (m .loop .out) (36 * (a .j * a .waters + k)) y) (line-in s (a .waters) (b .pre .3) (a .j) k taken g)),
+            (put .0 ∙ ap blanks (row-in s (a .waters) (b .pre .3) (a .j) k taken (a .t .front .seat) g))
+            (put .1 ∙ ap (λ y. written (m .loop .out) (36 * (a .j * a .waters + k)) y) (line-in s (a .waters) (b .pre .3) (a .j) k taken (a .t .front .seat) g)),
       ),
     )
 
@@ -191,9 +191,9 @@ returns c =
     let put = m .loop .inv .4 g h .1 none in
     let k : m .loop .k ≡ a .waters = omega arith in (
       omega arith,
-      put .blanks ∙ ap (λ n. blanksTo (a .s) g (a .j * a .waters + n)) k,
+      put .blanks ∙ ap (λ n. blanksTo (a .s) (a .t .front .seat) g (a .j * a .waters + n)) k,
       m .loop .inv .2,
-      λ lent n f. put .lines lent n f ∙ ap (λ n. written lent 0 (linesTo (a .s) g (a .j * a .waters + n))) k,
+      λ lent n f. put .lines lent n f ∙ ap (λ n. written lent 0 (linesTo (a .s) (a .t .front .seat) g (a .j * a .waters + n))) k,
     )
 
 pub put-group-spec : {M : Type 1} → statement M

@@ -1,8 +1,8 @@
--- `language::candidate` meets its contract: the values are those of the words behind the first space. Assumes nothing.
+-- `language::candidate` meets its contract: the kind is that of the first two letters, and the values are those of the words
+-- behind the first space. Assumes nothing.
 use mathlib.Core.Path.{_≡_, ap, _∙_}
 use mathlib.Core.List.{List}
 use Prim.Native.Nat.{ℕ}
-use native.Mathlib.Omega.{arith}
 use borrow.Author.Needs.{needs}
 use lib.IntN.{ℤ}
 use lib.ListN.{getD, drop}
@@ -21,8 +21,11 @@ behind-requires c κs = search needs
 values-at-requires : tie.Need-values-at-requires
 values-at-requires c κs = search needs
 
-shared-slice-read-kind-named : tie.Need-shared-slice-read-kind-named
-shared-slice-read-kind-named c = omega arith
+letter-at-requires : tie.Need-letter-at-requires
+letter-at-requires c κs = search needs
+
+letter-at-requires-2 : tie.Need-letter-at-requires-2
+letter-at-requires-2 c κs = search needs
 
 kind-named-requires : tie.Need-kind-named-requires
 kind-named-requires c κs = search needs
@@ -34,16 +37,18 @@ returns : tie.Need-returns
 unfolding candidate
 returns c =
     let k = c .before in
-    let w = k .before .before in
+    let second = k .before in
+    let first = second .before in
+    let w = first .before in
     let b = w .before in
     let f = b .before in
     let s = f .before .before .args .s .now in
-    let kind : k .kind-named .result ≡ kindNamed (getD s 0 0) = k .kind-named .ensures in
+    let kind : k .kind-named .result ≡ kindNamed (getD s 0 0) (getD s 1 0) = rw (first .letter-at .ensures, second .letter-at2 .ensures) at (k .kind-named .ensures) in
     let others : drop (b .behind .result) s ≡ otherWords s = b .behind .ensures .1 ∙ others-read s 0 (f .find .result) (f .find .ensures .0) in
     let values : w .values-at .result ≡ valuesFrom 15 (otherWords s) = w .values-at .ensures ∙ ap (valuesFrom 15) others in
     c .entry-of .ensures
     ∙ ap (λ (j : ℕ). entryOf j (w .values-at .result)) kind
-    ∙ ap (λ (v : List ℤ). entryOf (kindNamed (getD s 0 0)) v) values
+    ∙ ap (λ (v : List ℤ). entryOf (kindNamed (getD s 0 0) (getD s 1 0)) v) values
 
 pub candidate-spec : {M : Type 1} → statement M
 candidate-spec =
@@ -52,7 +57,8 @@ candidate-spec =
     find-requires
     behind-requires
     values-at-requires
-    shared-slice-read-kind-named
+    letter-at-requires
+    letter-at-requires-2
     kind-named-requires
     entry-of-requires
     returns)

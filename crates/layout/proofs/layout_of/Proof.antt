@@ -25,9 +25,13 @@ unfolding layoutOf widths total
 returns-4 c = ap (λ (k : ℕ). rowOf (layoutOf k)) (sym (c .match .keys4))
 
 returns-5 : tie.Need-returns-5
-returns-5 c =
+unfolding layoutOf widths total
+returns-5 c = ap (λ (k : ℕ). rowOf (layoutOf k)) (sym (c .match .keys5))
+
+returns-6 : tie.Need-returns-6
+returns-6 c =
     let m = c .match .rest in
-    ap rowOf (sym (no-row (c .before .args .kind) (m .0 .0 .0 .1) (m .0 .0 .1) (m .0 .1) (m .1)))
+    ap rowOf (sym (no-row (c .before .args .kind) (m .0 .0 .0 .0 .1) (m .0 .0 .0 .1) (m .0 .0 .1) (m .0 .1) (m .1)))
 
 pub layout-of-spec : {M : Type 1} → statement M
-layout-of-spec = tie.close (tie.spec returns returns-2 returns-3 returns-4 returns-5)
+layout-of-spec = tie.close (tie.spec returns returns-2 returns-3 returns-4 returns-5 returns-6)

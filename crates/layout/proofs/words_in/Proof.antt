@@ -27,6 +27,12 @@ enum-known-e-4 c = search needs
 paired-words-requires : tie.Need-paired-words-requires
 paired-words-requires c κs = search needs
 
+enum-known-e-5 : tie.Need-enum-known-e-5
+enum-known-e-5 c = search needs
+
+seat-words-requires : tie.Need-seat-words-requires
+seat-words-requires c κs = search needs
+
 returns : tie.Need-returns
 returns c =
     rw (c .before .before .e .given .1, c .weighing-words .ensures)
@@ -43,6 +49,10 @@ returns-4 : tie.Need-returns-4
 returns-4 c =
     rw (c .before .before .e4 .given .1, c .paired-words .ensures)
 
+returns-5 : tie.Need-returns-5
+returns-5 c =
+    rw (c .before .before .e5 .given .1, c .seat-words .ensures)
+
 pub words-in-spec : {M : Type 1} → statement M
 words-in-spec =
     tie.close
@@ -55,7 +65,10 @@ words-in-spec =
     change-words-requires
     enum-known-e-4
     paired-words-requires
+    enum-known-e-5
+    seat-words-requires
     returns
     returns-2
     returns-3
-    returns-4)
+    returns-4
+    returns-5)

@@ -10,7 +10,9 @@ use mir.Syntax.{w64}
 use mir.Val.{SFits}
 use Rattle.laws.specs.Tests.{left}
 use Rattle.laws.specs.Z.{zs, back}
-use Rattle.paper.specs.Rows.{keepsAt, upTo}
+use Rattle.paper.specs.Rows.{upTo}
+use Rattle.planes.specs.Plane.{keptAt}
+use Rattle.planes.proofs.Arms.{last-is}
 use Rattle.planes.proofs.Ends.{ends-ahead, ends-behind}
 use Rattle.sheet.proofs.Laws.{Ranges}
 use Rattle.sheet.proofs.Accepted.{accepted-sheet}
@@ -49,7 +51,7 @@ forward-margin-requires c κs = search needs
 forward-margin-requires-2 : tie.Need-forward-margin-requires-2
 forward-margin-requires-2 c κs =
     let b = c .before .before .before .before .before .before in
-    share-room (b .args .q .step) (b .pre .1 .share)
+    share-room (b .args .q .lower) (b .pre .1 .lowerShare)
 
 narrow-requires : tie.Need-narrow-requires
 narrow-requires c κs = search needs
@@ -63,7 +65,8 @@ returns c =
     let a = b .args in
     let s = a .s in
     let q = b .pre .1 in
-    let y = a .q .step in
+    let y = a .q .lower in
+    let f = a .q .seat in
     let line : ℕ → Bool = λ k. fwdTest (a .x) y k in
     let wets : ℕ → Bool = λ k. weightTest (a .x) y k (s .wet) in
     let e : (k : ℕ) → within (c .narrow .result) k ≡ ((within (a .span) k && wets k) && line k) =
@@ -72,8 +75,8 @@ returns c =
       λ g rear w h none k.
           let p = k * s .front .step in
           rw (none k) at (e k)
-          ∙ all-kept (inSeat s k) (keepsAt s g rear p 0) (upTo (keepsAt s g rear p) w) (wets k) (line k)
-          (rw (← weight-line s g rear w (a .x) y h (q .step) k (s .wet), ← fwd-line s g rear w (a .x) y h (q .step) k) (ends-ahead s g rear p w (ahead t) (ranges b .limits))),
+          ∙ all-kept (inSeat s k) (keptAt s f g rear p 0) (upTo (keptAt s f g rear p) w) (wets k) (line k)
+          (rw (← weight-line s (f .lower) g rear w (a .x) y h (q .lower) k (s .wet), ← fwd-line s (f .lower) g rear w (a .x) y h (q .lower) k) (ends-ahead s f g rear p w (ahead t) (ranges b .limits))),
     )
 
 safe-margin-requires : tie.Need-safe-margin-requires
@@ -82,7 +85,7 @@ safe-margin-requires c κs = search needs
 safe-margin-requires-2 : tie.Need-safe-margin-requires-2
 safe-margin-requires-2 c κs =
     let b = c .before .before .before .before .before .before in
-    share-room (b .args .q .step) (b .pre .1 .share)
+    share-room (b .args .q .higher) (b .pre .1 .higherShare)
 
 narrow-requires-2 : tie.Need-narrow-requires-2
 narrow-requires-2 c κs = search needs
@@ -96,8 +99,10 @@ returns-2 c =
     let a = b .args in
     let s = a .s in
     let q = b .pre .1 in
-    let y = a .q .step in
-    let line : ℕ → Bool = λ k. aftTest (a .x) y k in
+    let y = a .q .lower in
+    let z = a .q .higher in
+    let f = a .q .seat in
+    let line : ℕ → Bool = λ k. aftTest (a .x) z k in
     let wets : ℕ → Bool = λ k. weightTest (a .x) y k (s .wet) in
     let e : (k : ℕ) → within (c .narrow2 .result) k ≡ ((within (a .span) k && wets k) && line k) =
     λ k. rw (margin .before .safe-margin .ensures, margin .safe-margin2 .ensures, wet .weight-limit .ensures k) at (c .narrow2 .ensures k) in (
@@ -105,8 +110,8 @@ returns-2 c =
       λ g rear w h none k.
           let p = k * s .front .step in
           rw (none k) at (e k)
-          ∙ all-kept (inSeat s k) (keepsAt s g rear p 0) (upTo (keepsAt s g rear p) w) (wets k) (line k)
-          (rw (← weight-line s g rear w (a .x) y h (q .step) k (s .wet), ← aft-line s g rear w (a .x) y h (q .step) k) (ends-behind s g rear p w (behind t))),
+          ∙ all-kept (inSeat s k) (keptAt s f g rear p 0) (upTo (keptAt s f g rear p) w) (wets k) (line k)
+          (rw (← weight-line s (f .lower) g rear w (a .x) y h (q .lower) k (s .wet), ← aft-line s (f .higher) g rear w (a .x) z h (q .higher) k) (rw (last-is f (q .order)) at (ends-behind s f g rear p w (behind t)))),
     )
 
 pub with-all-spec : {M : Type 1} → statement M

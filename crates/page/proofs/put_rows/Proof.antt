@@ -18,13 +18,13 @@ use Rattle.page.proofs.put_rows.Tie as tie
 
 abbrev Inv-loop : tie.InvT-loop
 Inv-loop s b out₀ t rears waters fields none₀ j₀ out none j =
-    (j ≤ rears) × (none ≤ j * waters) × (length out ≡ length out₀) × (none ≡ blanksTo s (plain b) (j * waters)) × (out ≡ written out₀ 0 (linesTo s (plain b) (j * waters)))
+    (j ≤ rears) × (none ≤ j * waters) × (length out ≡ length out₀) × (none ≡ blanksTo s (t .front .seat) (plain b) (j * waters)) × (out ≡ written out₀ 0 (linesTo s (t .front .seat) (plain b) (j * waters)))
 
 abbrev μ-loop : tie.MeasureT-loop
 μ-loop s b out₀ t rears waters fields none₀ j₀ out none j = rears - j
 
 terms-of-requires : tie.Need-terms-of-requires Inv-loop μ-loop
-terms-of-requires c κs = c .before .pre .0
+terms-of-requires c κs = (c .before .pre .0, c .before .pre .1)
 
 loads-requires : tie.Need-loads-requires Inv-loop μ-loop
 loads-requires c κs =
@@ -48,8 +48,9 @@ loop-holds : tie.Need-loop-holds Inv-loop μ-loop
 loop-holds c =
     let l = c .before .before .before in
     let a = l .before .before .before .before .args in
+    let f = l .before .before .terms-of .result .front .seat in
     let z : 0 * l .loads2 .result ≡ 0 = zero-mul (l .loads2 .result) in
-    (omega arith, omega arith, refl, none-blank (a .s) (plain (a .b)) ∙ ap (blanksTo (a .s) (plain (a .b))) (sym z), none-put (a .s) (plain (a .b)) (a .out .now) ∙ ap (λ (i : ℕ). written (a .out .now) 0 (linesTo (a .s) (plain (a .b)) i)) (sym z))
+    (omega arith, omega arith, refl, none-blank (a .s) f (plain (a .b)) ∙ ap (blanksTo (a .s) f (plain (a .b))) (sym z), none-put (a .s) f (plain (a .b)) (a .out .now) ∙ ap (λ (i : ℕ). written (a .out .now) 0 (linesTo (a .s) f (plain (a .b)) i)) (sym z))
 
 put-group-requires : tie.Need-put-group-requires Inv-loop μ-loop
 put-group-requires c κs =
@@ -57,7 +58,7 @@ put-group-requires c κs =
     let f = m .before in
     let l = f .before .before .before in
     let b = l .before .before .before .before in
-    (b .pre .0, l .before .before .terms-of .ensures, b .pre .1, l .loads2 .ensures .0, omega (arith, l .before .loads .ensures .0), f .put-waters .ensures, omega (arith, b .pre .2, m .loop .inv .2))
+    (b .pre .0, l .before .before .terms-of .ensures .1, b .pre .2, l .loads2 .ensures .0, omega (arith, l .before .loads .ensures .0), f .put-waters .ensures, omega (arith, b .pre .3, m .loop .inv .2))
 
 -- the rows of the next group are among the sheet's, which has few
 module _ (c : tie.In-loop Inv-loop μ-loop) where
@@ -89,13 +90,14 @@ loop-again c =
     let l = m .before .before .before .before in
     let b = l .before .before .before .before in
     let a = b .args in
+    let f = l .before .before .terms-of .result .front .seat in
     let n = l .loads2 .result in
     let e : m .loop .j * n + n ≡ (m .loop .j + 1) * n = omega (arith, add-mul (m .loop .j) 1 n, one-mul n) in (
       omega arith,
       omega (arith, p .put-group .ensures .0, e),
       p .put-group .ensures .2 ∙ m .loop .inv .2,
-      omega (arith, p .put-group .ensures .1, m .loop .inv .3, ap (blanksTo (a .s) (plain (a .b))) e),
-      p .put-group .ensures .3 (a .out .now) (sym (m .loop .inv .2)) (m .loop .inv .4) ∙ ap (λ (i : ℕ). written (a .out .now) 0 (linesTo (a .s) (plain (a .b)) i)) e,
+      omega (arith, p .put-group .ensures .1, m .loop .inv .3, ap (blanksTo (a .s) f (plain (a .b))) e),
+      p .put-group .ensures .3 (a .out .now) (sym (m .loop .inv .2)) (m .loop .inv .4) ∙ ap (λ (i : ℕ). written (a .out .now) 0 (linesTo (a .s) f (plain (a .b)) i)) e,
     )
 
 same-length : tie.Need-same-length Inv-loop μ-loop
@@ -108,10 +110,13 @@ returns c =
     let l = m .before .before .before .before in
     let b = l .before .before .before .before in
     let a = b .args in
+    let terms = l .before .before .terms-of in
+    let f = terms .result .front .seat in
     let all : m .loop .j ≡ l .before .loads .result = omega arith in
-    let e : m .loop .j * l .loads2 .result ≡ rowCount (a .s) = rw (all, l .before .loads .ensures .0, l .loads2 .ensures .0) in (
-      all-blank (a .s) (plain (a .b)) (m .loop .none) _ e (m .loop .inv .3),
-      all-put (a .s) (plain (a .b)) (a .out .now) (m .loop .out) _ e (m .loop .inv .4),
+    let e : m .loop .j * l .loads2 .result ≡ rowCount (a .s) = rw (all, l .before .loads .ensures .0, l .loads2 .ensures .0) in
+    rw (← terms .ensures .0) (
+      all-blank (a .s) f (plain (a .b)) (m .loop .none) _ e (m .loop .inv .3),
+      all-put (a .s) f (plain (a .b)) (a .out .now) (m .loop .out) _ e (m .loop .inv .4),
     )
 
 pub put-rows-spec : {M : Type 1} → statement M

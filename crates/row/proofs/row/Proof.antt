@@ -35,7 +35,7 @@ returns c =
     let s = b .args .s in
     let e = c .row-of .ensures (s .front .most) (most w) in (
       row-fits (c .row-of .result) (stepIn (s .front .step) (w .with-all .result)) (s .front .most) (accepted b .ranges .front) e,
-      λ g rear v h none. e ∙ solved s g rear v (w .with-all .result) (w .with-all .ensures .1 g rear v h none),
+      λ g rear v h none. e ∙ solved s (b .args .q .seat) g rear v (w .with-all .result) (w .with-all .ensures .1 g rear v h none),
     )
 
 pub row-spec : {M : Type 1} → statement M

@@ -19,6 +19,9 @@ change-of-requires c κs = search needs
 paired-of-requires : tie.Need-paired-of-requires
 paired-of-requires c κs = search needs
 
+seat-of-requires : tie.Need-seat-of-requires
+seat-of-requires c κs = search needs
+
 returns : tie.Need-returns
 returns c =
     let b = c .before in
@@ -37,9 +40,14 @@ returns-3 c =
 returns-4 : tie.Need-returns-4
 returns-4 c =
     let b = c .before in
+    c .paired-of .ensures ∙ ap (λ (k : ℕ). entryWith k (b .before .args .n)) (sym (b .match .keys4))
+
+returns-5 : tie.Need-returns-5
+returns-5 c =
+    let b = c .before in
     let m = b .match .rest in
-    let fourth = last-row (b .before .args .kind) (b .before .pre) (m .0 .0 .1) (m .0 .1) (m .1) in
-    c .paired-of .ensures ∙ ap (λ (k : ℕ). entryWith k (b .before .args .n)) (sym fourth)
+    let fifth = last-row (b .before .args .kind) (b .before .pre) (m .0 .0 .0 .1) (m .0 .0 .1) (m .0 .1) (m .1) in
+    c .seat-of .ensures ∙ ap (λ (k : ℕ). entryWith k (b .before .args .n)) (sym fifth)
 
 pub entry-of-spec : {M : Type 1} → statement M
 entry-of-spec =
@@ -49,7 +57,9 @@ entry-of-spec =
     sheet-of-requires
     change-of-requires
     paired-of-requires
+    seat-of-requires
     returns
     returns-2
     returns-3
-    returns-4)
+    returns-4
+    returns-5)

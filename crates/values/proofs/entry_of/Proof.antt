@@ -9,10 +9,10 @@ use Rattle.paper.specs.File.{entryOf}
 use Rattle.values.proofs.entry_of.Statement.{statement}
 use Rattle.values.proofs.entry_of.Tie as tie
 
--- what is none of the first three kinds is a paired weighing
-others : (k : ℕ) (vs : List ℤ) → (k ≡ 1 → ⊥) → (k ≡ 2 → ⊥) → (k ≡ 3 → ⊥) → entryOf 4 vs ≡ entryOf k vs
+-- what is none of the first four kinds is a seat
+others : (k : ℕ) (vs : List ℤ) → (k ≡ 1 → ⊥) → (k ≡ 2 → ⊥) → (k ≡ 3 → ⊥) → (k ≡ 4 → ⊥) → entryOf 5 vs ≡ entryOf k vs
 unfolding entryOf
-others k vs a b d = rw (ne-eqb k 1 a, ne-eqb k 2 b, ne-eqb k 3 d)
+others k vs a b c d = rw (ne-eqb k 1 a, ne-eqb k 2 b, ne-eqb k 3 c, ne-eqb k 4 d)
 
 weighing-of-requires : tie.Need-weighing-of-requires
 weighing-of-requires c κs = search needs
@@ -25,6 +25,9 @@ change-of-requires c κs = search needs
 
 paired-of-requires : tie.Need-paired-of-requires
 paired-of-requires c κs = search needs
+
+seat-of-requires : tie.Need-seat-of-requires
+seat-of-requires c κs = search needs
 
 returns : tie.Need-returns
 returns c =
@@ -44,8 +47,13 @@ returns-3 c =
 returns-4 : tie.Need-returns-4
 returns-4 c =
     let b = c .before in
+    c .paired-of .ensures ∙ ap (λ (k : ℕ). entryOf k (b .before .args .v)) (sym (b .match .keys4))
+
+returns-5 : tie.Need-returns-5
+returns-5 c =
+    let b = c .before in
     let m = b .match .rest in
-    c .paired-of .ensures ∙ others (b .before .args .kind) (b .before .args .v) (m .0 .0 .1) (m .0 .1) (m .1)
+    c .seat-of .ensures ∙ others (b .before .args .kind) (b .before .args .v) (m .0 .0 .0 .1) (m .0 .0 .1) (m .0 .1) (m .1)
 
 pub entry-of-spec : {M : Type 1} → statement M
 entry-of-spec =
@@ -55,7 +63,9 @@ entry-of-spec =
     sheet-of-requires
     change-of-requires
     paired-of-requires
+    seat-of-requires
     returns
     returns-2
     returns-3
-    returns-4)
+    returns-4
+    returns-5)

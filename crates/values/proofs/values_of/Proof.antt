@@ -37,6 +37,12 @@ enum-known-e-4 c = search needs
 paired-values-requires : tie.Need-paired-values-requires
 paired-values-requires c κs = rw (c .before .e4 .given .1) at (c .before .before .before .pre)
 
+enum-known-e-5 : tie.Need-enum-known-e-5
+enum-known-e-5 c = search needs
+
+seat-values-requires : tie.Need-seat-values-requires
+seat-values-requires c κs = search needs
+
 returns : tie.Need-returns
 returns c = ap (held 6) (c .weighing-values .ensures) ∙ sym (ap valuesIn (c .before .before .e .given .1))
 
@@ -48,6 +54,9 @@ returns-3 c = ap (held 3) (c .change-values .ensures) ∙ sym (ap valuesIn (c .b
 
 returns-4 : tie.Need-returns-4
 returns-4 c = ap (held 8) (c .paired-values .ensures) ∙ sym (ap valuesIn (c .before .before .e4 .given .1))
+
+returns-5 : tie.Need-returns-5
+returns-5 c = ap (held 2) (c .seat-values .ensures) ∙ sym (ap valuesIn (c .before .before .e5 .given .1))
 
 pub values-of-spec : {M : Type 1} → statement M
 values-of-spec =
@@ -61,7 +70,10 @@ values-of-spec =
     change-values-requires
     enum-known-e-4
     paired-values-requires
+    enum-known-e-5
+    seat-values-requires
     returns
     returns-2
     returns-3
-    returns-4)
+    returns-4
+    returns-5)

@@ -23,9 +23,13 @@ third : (k : ℕ) → k ≡ 3 → nameOf k ≡ 99 ∷ 104 ∷ 97 ∷ 110 ∷ 103
 unfolding nameOf
 third k e = rw e
 
-other : (k : ℕ) → (k ≡ 1 → ⊥) → (k ≡ 2 → ⊥) → (k ≡ 3 → ⊥) → nameOf k ≡ 112 ∷ 97 ∷ 105 ∷ 114 ∷ 101 ∷ 100 ∷ []
+fourth : (k : ℕ) → k ≡ 4 → nameOf k ≡ 112 ∷ 97 ∷ 105 ∷ 114 ∷ 101 ∷ 100 ∷ []
 unfolding nameOf
-other k a b d = rw (ne-eqb k 1 a, ne-eqb k 2 b, ne-eqb k 3 d)
+fourth k e = rw e
+
+other : (k : ℕ) → (k ≡ 1 → ⊥) → (k ≡ 2 → ⊥) → (k ≡ 3 → ⊥) → (k ≡ 4 → ⊥) → nameOf k ≡ 115 ∷ 101 ∷ 97 ∷ 116 ∷ []
+unfolding nameOf
+other k a b c d = rw (ne-eqb k 1 a, ne-eqb k 2 b, ne-eqb k 3 c, ne-eqb k 4 d)
 
 slice-aggregate-put-bytes : tie.Need-slice-aggregate-put-bytes
 slice-aggregate-put-bytes c = search needs
@@ -57,8 +61,16 @@ slice-aggregate-put-bytes-4 c = search needs
 put-bytes-requires-4 : tie.Need-put-bytes-requires-4
 put-bytes-requires-4 c κs =
     let b = c .before .before in
+    omega (arith, ap length (fourth (b .before .before .args .kind) (b .match .keys4)))
+
+slice-aggregate-put-bytes-5 : tie.Need-slice-aggregate-put-bytes-5
+slice-aggregate-put-bytes-5 c = search needs
+
+put-bytes-requires-5 : tie.Need-put-bytes-requires-5
+put-bytes-requires-5 c κs =
+    let b = c .before .before in
     let m = b .match .rest in
-    omega (arith, ap length (other (b .before .before .args .kind) (m .0 .0 .1) (m .0 .1) (m .1)))
+    omega (arith, ap length (other (b .before .before .args .kind) (m .0 .0 .0 .1) (m .0 .0 .1) (m .0 .1) (m .1)))
 
 same-length : tie.Need-same-length
 same-length c = search needs
@@ -94,8 +106,17 @@ returns-4 : tie.Need-returns-4
 returns-4 c =
     let p = c .before .before in
     let b = p .before .before .before in
+    rw (fourth (b .before .before .args .kind) (b .match .keys4)) (p .put-bytes4 .ensures)
+
+same-length-5 : tie.Need-same-length-5
+same-length-5 c = search needs
+
+returns-5 : tie.Need-returns-5
+returns-5 c =
+    let p = c .before .before in
+    let b = p .before .before .before in
     let m = b .match .rest in
-    rw (other (b .before .before .args .kind) (m .0 .0 .1) (m .0 .1) (m .1)) (p .put-bytes4 .ensures)
+    rw (other (b .before .before .args .kind) (m .0 .0 .0 .1) (m .0 .0 .1) (m .0 .1) (m .1)) (p .put-bytes5 .ensures)
 
 pub put-name-spec : {M : Type 1} → statement M
 put-name-spec =
@@ -109,6 +130,8 @@ put-name-spec =
     put-bytes-requires-3
     slice-aggregate-put-bytes-4
     put-bytes-requires-4
+    slice-aggregate-put-bytes-5
+    put-bytes-requires-5
     same-length
     returns
     same-length-2
@@ -116,4 +139,6 @@ put-name-spec =
     same-length-3
     returns-3
     same-length-4
-    returns-4)
+    returns-4
+    same-length-5
+    returns-5)

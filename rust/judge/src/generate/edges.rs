@@ -339,11 +339,11 @@ fn second_edge(random: &mut Random, call: Call) -> Call {
 
 /// A call that is good but for one field at an edge, seldom for two.
 pub(super) fn edge_call(random: &mut Random, glider: &Glider, journal: &Journal) -> Call {
-    let call = match random.below(5) {
+    let call = match random.below(6) {
         0 => edge_weigh_call(random, glider),
         1 => edge_pair_call(random, glider),
-        2 => edge_install_call(random, glider),
-        3 => edge_seat_call(random, glider),
+        2 | 3 => edge_install_call(random, glider),
+        4 => edge_seat_call(random, glider),
         _ => edge_change_call(random, glider, journal),
     };
     if random.one_in(5) {

@@ -50,7 +50,11 @@ impl Glider {
     /// An arm near the sheet's front arm: as far off as the back of a seat moves, or
     /// in a glider of some hundred grams a few units.
     fn arm_nearby(&self, random: &mut Random) -> i64 {
-        let reach = if self.grams() > 1_000 { 15_000 } else { 40 };
+        let reach = if self.grams() > 1_000 {
+            random.pick(&[500, 3_000, 15_000])
+        } else {
+            random.pick(&[2, 8, 40])
+        };
         self.sheet.front_arm + random.between(-reach, reach)
     }
 
@@ -58,12 +62,12 @@ impl Glider {
     /// or beside them, of few arms, of one, or as wide as can be.
     pub(super) fn any_seat(&self, random: &mut Random) -> Seat {
         let (arm, other) = (self.arm_nearby(random), self.arm_nearby(random));
-        let seat = match random.below(10) {
-            0..=2 => between(arm, other),
-            3 => between(arm, self.sheet.front_arm),
-            4 => random.pick(&[between(arm, arm), self.ends()]),
-            5 => wide(random, arm),
-            6 | 7 => between(arm, arm + random.between(0, EVERY_ARM as i64 + 1)),
+        let seat = match random.below(12) {
+            0..=4 => between(arm, other),
+            5 => between(arm, self.sheet.front_arm),
+            6 => random.pick(&[between(arm, arm), self.ends()]),
+            7 => wide(random, arm),
+            8 | 9 => between(arm, arm + random.between(0, EVERY_ARM as i64 + 1)),
             _ => return self.seat_at_limits(random),
         };
         lightened(random, &self.sheet, seat)
@@ -72,11 +76,11 @@ impl Glider {
     /// A seat with one end on a limit or one unit beside it, or with both.
     pub(super) fn seat_at_limits(&self, random: &mut Random) -> Seat {
         let end = beside_a_limit(random, &self.sheet);
-        let seat = match random.below(6) {
-            0 | 1 => between(end, beside_a_limit(random, &self.sheet)),
-            2 => between(end, end + random.between(1, 3)),
-            3 => between(end, end),
-            4 => wide(random, end),
+        let seat = match random.below(8) {
+            0..=2 => between(end, beside_a_limit(random, &self.sheet)),
+            3 => between(end, end + random.between(1, 3)),
+            4 => between(end, end),
+            5 => wide(random, end),
             _ => between(end, self.arm_nearby(random)),
         };
         lightened(random, &self.sheet, seat)

@@ -3,7 +3,7 @@
 // Each test file is a program of its own and uses a part of these.
 #![allow(dead_code)]
 
-use nodhulika::{Change, Paired, Record, Sheet, Station, Weighing};
+use nodhulika::{Change, Paired, Record, Seat, Sheet, Station, Weighing};
 
 /// Bytes of the header and of each kind of entry.
 pub const HEADER: usize = 6;
@@ -11,6 +11,7 @@ pub const WEIGHING: usize = 22;
 pub const SHEET: usize = 61;
 pub const CHANGE: usize = 10;
 pub const PAIRED: usize = 30;
+pub const SEAT: usize = 9;
 
 /// Where a file has its version, and the one that is no longer written.
 pub const VERSION: usize = 4;
@@ -71,6 +72,20 @@ pub const H_CHANGE: Change = Change {
     arm: -100_000,
     flag: Change::NON_LIFTING,
 };
+
+/// A seat in the glider of case G, far ahead and not so far aft of its front arm.
+pub const G_SEAT: Seat = Seat {
+    lower: -100_000,
+    higher: -37_500,
+};
+
+/// The placard of case G with that seat: the lower end bounds the load by the forward
+/// limit, the higher one by the safe aft limit.
+pub const G_SEAT_PLACARD: &str = "\
+0000.000 0000.000 0080.000 0088.000
+0000.000 0050.000 0080.000 0088.000
+0000.000 0100.000 -------- --------
+";
 
 /// The record of a weighing and a data sheet.
 pub fn record_of(weighing: &Weighing, sheet: &Sheet) -> Record {
