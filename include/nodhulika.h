@@ -9,16 +9,16 @@
  * range is refused. Only nodhulika_centre answers in half grams.
  *
  * A record is the list of a glider's accepted entries, at most 64: weighings,
- * plain and paired, data sheets, changes and adjustable seats. It is lent as its
- * file at the front of a buffer of the caller's: the first 4 + L bytes, L being
- * the big-endian number in the first four. The bytes behind the file are free.
- * Only an accepted call that makes the file longer writes there, and only as far
- * as the file then reaches. A buffer of NODHULIKA_LONGEST_FILE bytes has room for
- * every record.
+ * plain and paired, data sheets, changes and adjustable seats. It is lent as
+ * its file at the front of a buffer of the caller's: the first 4 + L bytes, L
+ * being the big-endian number in the first four. The bytes behind the file are
+ * free. Only an accepted call that makes the file longer writes there, and only
+ * as far as the file then reaches. A buffer of NODHULIKA_LONGEST_FILE bytes has
+ * room for every record.
  *
  * Files are written in version 2. One of version 1, which has no paired
- * weighings and no seats, is taken as it is; the first accepted call that changes
- * the record leaves one of version 2.
+ * weighings and no seats, is taken as it is; the first accepted call that
+ * changes the record leaves one of version 2.
  *
  * Every function answers 0 where the call is accepted, else the number of its
  * refusal: the first, in the order given with the function, whose condition
@@ -69,8 +69,8 @@ enum nodhulika_refusal {
     /* The method is not 1..4, a reading is over 2,000,000 g, q is more than p
      * in method 1 or 2, or G is not 1..2,000,000 g. */
     NODHULIKA_READING = 1,
-    /* An arm, or the distance a or b of a weighing, is outside its range, or the
-     * ends of a seat are reversed. */
+    /* An arm, or the distance a or b of a weighing, is outside its range, or
+     * the ends of a seat are reversed. */
     NODHULIKA_ARM = 2,
     /* n is not 0..G, as given or after the change. */
     NODHULIKA_NON_LIFTING = 3,
@@ -229,8 +229,8 @@ uint64_t nodhulika_change(uint8_t *buffer, size_t buffer_length,
  * Adds to the record a front seat whose back can be adjusted: the arm of the
  * front load is known only to lie between two ends. They override the front_arm
  * of the data sheet before them until the next data sheet or seat. A front load
- * then keeps the limits only where it does so at every arm between the ends, both
- * included.
+ * then keeps the limits only where it does so at every arm between the ends,
+ * both included.
  *
  * buffer: the record; 9 bytes behind its file are written, and its header.
  * lower, higher: the two ends, as arms; lower <= higher.
@@ -296,8 +296,8 @@ uint64_t nodhulika_centre(const uint8_t *buffer, size_t buffer_length,
  * smallest and largest front load, each as four digits of kilograms, a point
  * and three of grams, one space between and a line feed behind. The front loads
  * are the ends of those that keep every limit with any part of the water aboard
- * and at every arm of the front seat, 0 never among them; both are eight hyphens,
- * a blank row, where there is none.
+ * and at every arm of the front seat, 0 never among them; both are eight
+ * hyphens, a blank row, where there is none.
  *
  * buffer: the record.
  * out: where the lines go, from its front; bytes behind the last stay, and no

@@ -635,7 +635,7 @@ def seat_extremes():
 
 
 def seat_orders():
-    """No weighing is asked for. Faults: 64 entries (full), no sheet, an end out of its range (arm), the higher first (reversed)."""
+    """No weighing is asked for. A seat is reversed where its higher end comes first."""
     full, weighings, here = filled(weighed()), 64 * (WEIGHING,), (*weighed(), SHEET)
     arm, turned = {"lower": -2000001}, {"lower": -45000, "higher": -50000}
     for label, journal, entry in (
@@ -660,7 +660,7 @@ def seat_orders():
 
 
 def seat_lists():
-    """Seats count for nothing in the balance, and end with none of the entries behind them."""
+    """They count for nothing in the balance."""
     steps = [("before the sheet", SEAT), ("sheet", SHEET), ("before the weighing", SEAT), ("weighing", SECOND)]
     steps += [("behind the weighing", seat(lower=-60000)), ("change", Change(55, -700, 1)), ("behind the change", SEAT)]
     steps += [("a pair", as_pair(SECOND, q2=91)), ("reversed", seat(lower=0)), ("arm", seat(higher=2000001))]

@@ -1,7 +1,8 @@
 """What the program `files` takes and prints, by the oracle's reckoning. The lines of both are described in the program's
 src/main.rt."""
 
-from oracle import VERSION, Change, Paired, Sheet, Weighing, add, centre_of_gravity, entry_bytes, file_of, read, width, write
+from oracle import VERSION, Change, Paired, Seat, Sheet, Weighing, add, centre_of_gravity, entry_bytes, file_of, read, width
+from oracle import write
 
 FRESH = ()
 MOST = 2000000
@@ -16,6 +17,7 @@ LIMITS, FRONT, WATER = (25000, 42500, 380000, 450000, 240000), (-47500, 55000, 1
 S = Sheet(*LIMITS, *FRONT, 12000, 90000, 100000, *WATER)
 C = Change(c=-4500, arm=-100000, flag=1)
 D = Change(c=1, arm=0, flag=0)
+B = Seat(lower=-50000, higher=-45000)
 LETTERS = {
     **{"w": W, "v": V, "P": W._replace(p=0), "A": W._replace(b=0), "N": W._replace(n=310001)},
     **{"p": P, "I": P._replace(p=0), "J": P._replace(p2=0), "K": P._replace(b=0)},
@@ -25,8 +27,10 @@ LETTERS = {
     **{"c": C, "q": C._replace(c=-150000), "Q": C._replace(c=-150001)},
     **{"d": D, "l": D._replace(c=-160000), "L": D._replace(c=-160001), "g": D._replace(c=1690000)},
     **{"G": D._replace(c=1690001), "C": D._replace(c=0), "B": D._replace(arm=-2000001)},
+    **{"b": B, "e": B._replace(higher=-50000), "f": Seat(-MOST, MOST), "R": B._replace(higher=-50001)},
+    **{"Z": B._replace(lower=-MOST - 1), "Y": B._replace(higher=MOST + 1)},
 }
-KIND_ALONE = {**{str(kind): bytes([kind]) for kind in range(6)}, "/": b"\xff"}
+KIND_ALONE = {**{str(kind): bytes([kind]) for kind in range(7)}, "/": b"\xff"}
 
 # G and H, and a record that sheets fill.
 G_SHEET = Sheet(*LIMITS, *FRONT, 0, 0, 1, *WATER)
@@ -34,8 +38,9 @@ G = (Weighing(1, 288000, 0, 63334, 500000, 140000), G_SHEET)
 H_CHANGE = Change(4500, -100000, 1)
 SHEETS = 64 * (G_SHEET,)
 
-# G weighed twice.
+# G weighed twice, and G with a seat.
 PAIR = (Paired(1, 288000, 0, 288001, 0, 63334, 500000, 140000), G_SHEET)
+SEATED = (*G, B)
 
 
 def headed(body, length, count, version=VERSION):
@@ -88,8 +93,10 @@ def kept(label, call, arg="", calls=""):
 CHANGED = "c c4500 a-100000 f1"
 CALLS = {"K": "=", "G": "=,w p288000 q0 a63334 n140000,s b0 n0 t1"}
 CALLS |= {"H": f"{CALLS['G']},{CHANGED}", "64 sheets": ",".join(["=", *64 * ["s b0 n0 t1"]])}
-CALLS |= {"pair": "=,p p288000 q0 P288001 Q0 a63334 n140000,s b0 n0 t1"}
-RECORDS = {"K": FRESH, "G": G, "H": (*G, H_CHANGE), "64 sheets": SHEETS, "pair": PAIR}
+CALLS |= {"pair": "=,p p288000 q0 P288001 Q0 a63334 n140000,s b0 n0 t1", "seat": f"{CALLS['G']},a"}
+CALLS |= {"63 sheets and a seat": f"{','.join(['=', *63 * ['s b0 n0 t1']])},a"}
+RECORDS = {"K": FRESH, "G": G, "H": (*G, H_CHANGE), "64 sheets": SHEETS, "pair": PAIR, "seat": SEATED}
+RECORDS |= {"63 sheets and a seat": (*SHEETS[1:], B)}
 
 
 def shown(label, journal, calls):
@@ -101,8 +108,9 @@ def worked():
     assert file_of(FRESH).hex(" ") == "00 00 00 02 02 00"
     assert centre_of_gravity(G) == (0, 576000, 576000 * 63334, 63334)
     assert centre_of_gravity(PAIR) == (0, 576001, 576001 * 63334, 63334)
-    assert (len(file_of(G)), len(file_of(PAIR)), len(file_of(SHEETS))) == (89, 97, 3910)
-    for label in ("K", "G", "H", "pair"):
+    assert [len(file_of(journal)) for journal in (G, PAIR, SEATED, SHEETS)] == [89, 97, 98, 3910]
+    assert file_of(SEATED)[-9:].hex(" ") == "05 ff ff 3c b0 ff ff 50 38"
+    for label in ("K", "G", "H", "pair", "seat"):
         journal, calls = RECORDS[label], CALLS[label]
         yield shown(label, journal, calls)
         yield shown(f"{label}, read back", read(FRESH, file_of(journal))[1], f"{calls},r")
@@ -186,19 +194,32 @@ def every_number_of_a_pair():
     )
 
 
+def every_number_of_a_seat():
+    """Behind its sheet; the other end is -45000 or -50000."""
+    yield from each_other(
+        (S, B),
+        (B, "lower", -MOST - 1, -MOST, -45001, -45000, -44999, 0, MOST, MOST + 1, -(2**31), 2**31 - 1),
+        (B, "higher", -MOST - 1, -MOST, -50001, -50000, -49999, 0, MOST, MOST + 1, -(2**31), 2**31 - 1),
+    )
+
+
 def altered():
     yield from every_byte("", range(6))
     yield from every_byte("wc", range(38))
     yield from every_byte("s", range(6, 67))
     yield from every_byte("p", range(36))
+    yield from every_byte("sb", range(67, 76))
+    yield from every_byte("sb", [0, 1, 2, 3, 4, 5, 6])
     yield from every_byte("wsc", range(7))
     yield from every_byte("wsc", [28])
     yield from every_byte("wsc", [89])
     yield from every_byte("", range(6), version=1)
     yield from every_byte("wc", range(4, 7), version=1)
     yield from every_byte("p", [4], version=1)
+    yield from every_byte("sb", [4, 5, 67], version=1)
     yield from every_number()
     yield from every_number_of_a_pair()
+    yield from every_number_of_a_seat()
 
 
 # Files cut off, or with a byte 0 more, and with other counts than their own.
@@ -210,6 +231,7 @@ def cut():
         ("w", range(27, 30), range(3)),
         ("s", range(66, 69), range(3)),
         ("p", range(35, 38), range(3)),
+        ("sb", range(67, 79), range(1, 4)),
         ("wsc", range(101), range(1, 4)),
         (64 * "s", [3909], [64]),
         (64 * "s", [3911], [64]),
@@ -217,6 +239,8 @@ def cut():
         ("w" + 64 * "d", [668], range(64, 67)),
         ("w" + 62 * "d" + "p", [678], [64]),
         ("p" + 64 * "d", [676], [65]),
+        ("s" + 63 * "b", [634], range(63, 66)),
+        ("s" + 64 * "b", [643], range(64, 67)),
     ):
         data = composed(letters) + bytes(2)
         for n in lengths:
@@ -239,22 +263,29 @@ WITH_PAIRS = (
     "pc pd ps psc cp dp wpc pwc pl pL pll plL pg pG pgG pq pQ pqQ nl nd nc nq",
     "4 5 4w 5w w4 w5 p4 p5 s4w wsc4 wsc5 psc4 4p p0 p/",
 )
+WITH_SEATS = (
+    "b e f sb se sf sR sZ sY bs wb wbs sbb sbe sbR sRb swb wsb sbw sbp sbc wsbc wscb sbs sbsb sbsR ssb swbs",
+    "wsbw wsbp psb psbc wsbl wsbL wsbg wsbG wsbq wsbQ bsb wbsb Rs sF sFb Sb sSb srb sTb vsb wsfe wsef",
+    "5 6 s5 s6 sb5 sb6 sb0 sb1 sb2 sb4 sb/ 6b s6b b5 b6 wsb6 wsbc5 w6 ws5",
+)
 OF_VERSION_1 = (
     "w v P A N s r S F T c sc ws sw wS wsS wv wc wvc wC wB wl wL wg wG wq wQ wsc wscs 0 1 2 3 w0 w1 w2 w3 w/ wsc0 "
-    "p n J wp pw ps wsp pc psc wcp 4 5 w4 wsc4"
+    "p n J wp pw ps wsp pc psc wcp 4 5 w4 wsc4 b sb se wsb sbs wsbc wscb sR s5 s6 psb"
 )
 
 
 def turns():
-    """In version 1 there is no pair: a file that has one is none."""
+    """In version 1 there is no pair and no seat: a file that has one is none."""
     yield tried("[64 s]", composed(64 * "s"))
     yield tried("[65 s]", composed(65 * "s"))
-    for letters in " ".join((*PLAIN, *WITH_PAIRS)).split():
+    yield tried("[63 s, b]", composed(63 * "s" + "b"))
+    yield tried("[64 s, b]", composed(64 * "s" + "b"))
+    for letters in " ".join((*PLAIN, *WITH_PAIRS, *WITH_SEATS)).split():
         yield tried(f"[{letters}]", composed(letters))
     for letters in OF_VERSION_1.split():
         yield tried(f"[{letters}] of version 1", composed(letters, version=1))
     for version in (0, 3, 4, 255):
-        for letters in ("ws", "ps"):
+        for letters in ("ws", "ps", "sb"):
             yield tried(f"[{letters}] of version {version}", composed(letters, version))
 
 
@@ -279,6 +310,8 @@ def records():
         ("G", "+", "-", "wC", "+", "", "+", "w", "+"),
         ("G", "!wsc", "+", "!wp", "!", "+", "!vs", "+", "p", "+", "!w", "+"),
         ("pair", "+", "!wsc", "+", "psc", "+", "!psc", "+", "!", "wJ"),
+        ("seat", "+", "wb", "+", "wsb", "+", "!wsb", "sR", "sbp", "+", "", "sb", "!ws"),
+        ("63 sheets and a seat", "sb", "sY", "wsbc", "+"),
     ):
         yield list(read_in_turn(start, words))
 
@@ -301,6 +334,8 @@ def buffers():
     yield from written_into("H", 0, 89, 98, 99, 128)
     yield from written_into("64 sheets", 0, 6, 99, 3909, 3910)
     yield from written_into("pair", 0, 89, 96, 97, 128)
+    yield from written_into("seat", 0, 89, 97, 98, 128)
+    yield from written_into("63 sheets and a seat", 3849, 3857, 3858, 3910)
 
 
 def cases():

@@ -10,11 +10,11 @@ from pathlib import Path
 import cases
 import files
 import plates
-from oracle import Change, Paired, Sheet, Weighing, add, centre_of_gravity, file_of, placard, read, undo
+from oracle import Change, Paired, Seat, Sheet, Weighing, add, centre_of_gravity, file_of, placard, read, undo
 from oracle import HALVES, SIGNED
 
 SAMPLES = Path(__file__).parent.parent / "samples"
-NAMES = {"weighing": Weighing, "sheet": Sheet, "change": Change, "paired": Paired}
+NAMES = {"weighing": Weighing, "sheet": Sheet, "change": Change, "paired": Paired, "seat": Seat}
 NAME_OF = {kind: name for name, kind in NAMES.items()}
 SHORT = 160
 
@@ -80,7 +80,7 @@ def listing(journal):
     lines = []
     for at, entry in enumerate(journal, 1):
         lines.append(entry_line(entry))
-        if not isinstance(entry, Sheet):
+        if not isinstance(entry, (Sheet, Seat)):
             _, total, moment, centre = centre_of_gravity(journal[:at])
             lines.append(f"# total {grams(total)} moment {grams(moment)} centre {centre}\n")
     return "".join(lines).encode()
@@ -92,6 +92,7 @@ A = "weighing 1 310000 29900 9500 550000 0"
 S = "sheet 11200 30000 500000 500000 0 -123200 0 110000 1000 -11200 110000 55000 0 0 1"
 C = "change 4500 -100000 1"
 P = "paired 1 310000 29900 310001 29901 9500 550000 0"
+B = "seat -126000 -120000"
 
 OF_A_LINE = (
     *("", "\n", "\n\n\n", "#", "# a comment", "#undo", "#\n#\n", " #", "# \xe9\n"),
@@ -142,6 +143,29 @@ OF_A_PAIR = (
     *(f"paired 1 3 0 {p} 0 0 1 0\nchange {c} 7 0" for p in (3, 4) for c in (-3, -2, -1, 1)),
 )
 
+# Seats: what is no line, beside `sheet`, which has the same first letter; and numbers that their call refuses.
+SIGNS = ("0", "-0", "00", "+1", "01", "-01", "--1", "- 1", "1.0", "1,", "1_0", "0x1", "o", "-", "")
+OF_A_SEAT = (
+    *(B, S + "\n" + B, B + "\n" + S, A + "\n" + B, "# form\n\n" + B),
+    *(S + "\n" + B + "\n" + x for x in (A, B, S, P, S + "\nundo", A + "\n" + C)),
+    *(S + "\n" + B + "\n" + x for x in ("undo", "undo\nundo", "undo\nundo\n" + B, "undo\nundo\nundo")),
+    *("s", "se", "sea", "seat", "seat ", "seats", "seatt", "sheat", "seet", "shea", "set", "Seat", "SEAT", "seat\t", "seat\r"),
+    *(S + "\n" + x for x in ("seat", "seat ", "seat -1", "seat -1 ", "seat -1 2 ", "seat -1 2 3", "seat 1 2 3 4")),
+    *(S + "\n" + B.replace("seat", x) for x in ("sheet", "Seat", "SEAT", "sEat", "sea", "seats", "s", "sheat", "seet", "set")),
+    *(S + "\n" + B.replace("seat", x) for x in ("change", "undo", "weighing", "paired", "aseat")),
+    *(S + "\n" + B.replace("seat", x) for x in (" seat", "#seat", "seat ", "seat\t")),
+    *(S + "\n" + B + x for x in ("\r", "\t", ".", "#", " # aft")),
+    *(S.replace("sheet", x) for x in ("seat", "sheat", "seet", "s", "se")),
+    *(S + "\n" + f"seat {x} 2" for x in SIGNS),
+    *(S + "\n" + f"seat -2 {x}" for x in SIGNS),
+    *(S + "\n" + f"seat {x} 2000000" for x in (-2000001, -2000000, -9, -10, 9, 10, 99, 100, 2000000, 2000001)),
+    *(S + "\n" + f"seat -2000000 {x}" for x in (-2000001, -2000000, -1999999, -1, 1, 1999999, 2000000, 2000001)),
+    *(S + "\n" + f"seat {x}" for x in ("0 0", "1 0", "0 -1", "-1 -2", "2 1", "-120000 -126000", "2000001 -2000001")),
+    *(S + "\n" + f"seat -{n * '9'} {n * '9'}" for n in (7, 17, 18, 19, 100)),
+    *(S + "\n" + f"seat -{n} {n - 1}" for n in (2**31, 10**18, 2**63, 2**64)),
+    *(S + "\n" + f"seat 0 {n}" for n in (2**32, 10**18 - 1, 10**18, 2**64)),
+)
+
 # Where a text stops, by the number of the line.
 OF_LINES = (
     f"# form\n\n{A}\n# sheet\n{S}\n\nchange 0 0 0\n{C}\n",
@@ -158,6 +182,12 @@ OF_LINES = (
     63 * f"{S}\n" + f"{P}\n",
     64 * f"{P}\n" + "undo\n" + f"{P}\n" + f"{P}\n",
     f"# again\n{P}\n# sheet\n{S}\n\n{P[:-1]}310001\n{C}\n",
+    63 * f"{S}\n" + f"{B}\n",
+    f"{S}\n" + 63 * f"{B}\n" + "undo\n" + f"{B}\n" + f"{B}\n",
+    f"{A}\n# seat\n{B}\n{S}\n",
+    f"{A}\n{S}\n{B}\n{S}\n# equal\nundo\n{B}\nundo\nundo\nundo\n{B}\n",
+    f"{A}\n{S}\n{B}\n{P}\n{C}\n\nseat -120000 -126000\n",
+    f"{S}\nundo\n{B}\n",
 )
 
 
@@ -197,7 +227,7 @@ def all_cases():
     """Of the recorded texts that are long every twentieth."""
     texts = recorded()
     short, long = [t for t in texts if len(t) <= 600], [t for t in texts if len(t) > 600]
-    texts = [*OF_A_LINE, *OF_A_PAIR, *OF_LINES, *short, *long[::20]]
+    texts = [*OF_A_LINE, *OF_A_PAIR, *OF_A_SEAT, *OF_LINES, *short, *long[::20]]
     assert not any("~" in text for text in texts)
     return [text.encode("latin-1") for text in texts]
 
@@ -231,7 +261,7 @@ def case_line(text):
 
 IN_TURN = (
     *("astir_cs", "astir_cs_two_bars", "astir_cs_read_twice", "blanik_l13_normal", "blanik_l13_aerobatic", "twin_astir"),
-    *("discus", "discus_tail_lead", "g102_astir_cs", "g103_twin_ii"),
+    *("discus", "discus_tail_lead", "g102_astir_cs", "g103_twin_ii", "astir_cs_seat_back"),
 )
 
 
@@ -255,10 +285,14 @@ def sample_line(name):
 
 
 def figures():
-    """What the documents print of the same gliders. Half a gram more than the Astir's 288 kg leaves 91 kg."""
+    """What the documents print of the same gliders. Half a gram more than the Astir's 288 kg leaves 91 kg, and where its seat
+    back moves the plate begins where it is furthest aft."""
     assert plates.ends_of(sample("astir_cs"))[0] == (71, 92)
     assert plates.ends_of(sample("astir_cs_two_bars"))[0][0] == 66
     assert plates.ends_of(sample("astir_cs_read_twice"))[0] == (71, 91)
+    *fixed, back = sample("astir_cs_seat_back")
+    assert tuple(fixed) == sample("astir_cs") and plates.ends_of((*fixed, back))[0] == (73, 92)
+    assert [plates.ends_of((*fixed, Seat(arm, arm)))[0][0] for arm in back] == [69, 73]
     least = (107, 88, 69, 50, 31, 13, 0, 0, 0, 0, 0, 0, 0, 0, 0)
     most = (110, 110, 110, 110, 110, 110, 110, 110, 110, 105, 100, 95, 90, 80, 50)
     weighed, limits = sample("blanik_l13_normal")

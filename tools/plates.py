@@ -717,9 +717,8 @@ def seat_edges():
 def seat_limits_met():
     """A load that meets a limit at one end is kept, and with that end one further out it is not. The middle lets more pass."""
     forward, aft = lax(fwd=10000, greatest_front=130000), lax(fwd=0, aft=20000, greatest_front=130000)
-    middle = {"arms": middle_of}
     assert ends_of((level(a=24000), aft, Seat(-96000, -1000))) == [(50, 50)]
-    assert ends_of((level(a=24000), aft, Seat(-96000, -1000)), **middle) == [(15, 98)]
+    assert ends_of((level(a=24000), aft, Seat(-96000, -1000)), arms=middle_of) == [(15, 98)]
     for label, w, s, ends in (
         ("forward at 80", level(a=18000), forward, [(-10000, 0), (-10001, 0), (-9999, 0), (-10000, 10000), (-10000, -10000)]),
         ("forward at 80, by the gram", level(a=18000), fine(forward), [(-10000, 0), (-10001, 0), (-9999, 0)]),

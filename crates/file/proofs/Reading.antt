@@ -12,8 +12,7 @@ use Rattle.paper.specs.Record.{isNone}
 use Rattle.paper.specs.Refusals.{entryNumber, fileOf, _when_, firstNumber, readingNumber}
 use Rattle.paper.specs.Journal.{read, callNumber, acceptedCall, entriesOr}
 use Rattle.judge.specs.declared.Standing.{Standing}
-use Rattle.judge.specs.declared.Standing.the-variants.{Unweighed}
-use Rattle.judge.specs.Standing.{plainly, Sound, numberAt, after}
+use Rattle.judge.specs.Standing.{nothing, plainly, Sound, numberAt, after}
 use Rattle.record.specs.declared.Record.{Record}
 use Rattle.record.specs.declared.Kept.{Kept}
 use Rattle.record.specs.declared.Replayed.{Replayed}
@@ -33,7 +32,7 @@ pub record ReadTo (s : List ℕ) (k count i at : ℕ) (standing : Standing) (log
   pub held : ReplayedAs entries (record { log = log; standing = standing })
   pub many : log .count ≡ i
 
-pub begun : (s : List ℕ) (k count : ℕ) (log : Record) → log ≡ recordOf [] → ReadTo s k count 0 6 Unweighed log
+pub begun : (s : List ℕ) (k count : ℕ) (log : Record) → log ≡ recordOf [] → ReadTo s k count 0 6 nothing log
 unfolding recordOf
 begun s k count log e =
     record { entries = []; passed = none-passed s k count; held = replays.begun log e; many = ap (λ (l : Record). l .count) e }

@@ -22,7 +22,7 @@ use libc::STDIN_FILENO;
 // The cases come in blocks of this many bytes, filled up with line feeds. Each begins with a fresh record.
 const BLOCK: usize = 16384;
 
-const BLOCKS: usize = 20;
+const BLOCKS: usize = 25;
 
 // The next block.
 fn block() {

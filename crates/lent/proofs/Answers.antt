@@ -110,6 +110,7 @@ number-of es (entry.Weighing w) = refl
 number-of es (entry.Sheet t) = refl
 number-of es (entry.Change x) = refl
 number-of es (entry.Paired x) = refl
+number-of es (entry.Seat f) = refl
 
 pub list-of : (es : List Entry) (e : Entry) → acceptedCall es (callOf e) ≡ es ++ e ∷ []
 unfolding acceptedCall callOf
@@ -117,6 +118,7 @@ list-of es (entry.Weighing w) = refl
 list-of es (entry.Sheet t) = refl
 list-of es (entry.Change x) = refl
 list-of es (entry.Paired x) = refl
+list-of es (entry.Seat f) = refl
 
 -- taking back: nothing to take back, or the header of one entry less
 module _ (s : List ℕ) (es : List Entry) (h : heldIn s ≡ some es) where

@@ -12,7 +12,7 @@ use record::Record;
 // The cases come in blocks of this many bytes, each of whole cases.
 const BLOCK: usize = 16384;
 
-const BLOCKS: usize = 20;
+const BLOCKS: usize = 28;
 
 // The longest listing that is printed.
 const SHORT: usize = 160;

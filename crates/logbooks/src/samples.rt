@@ -70,4 +70,5 @@ pub fn run() {
     sample(b"discus_tail_lead.txt", b"discus_tail_lead.placard");
     sample(b"g102_astir_cs.txt", b"g102_astir_cs.placard");
     sample(b"g103_twin_ii.txt", b"g103_twin_ii.placard");
+    sample(b"astir_cs_seat_back.txt", b"astir_cs_seat_back.placard");
 }

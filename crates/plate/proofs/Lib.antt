@@ -1,3 +1,3 @@
--- What the proofs share: a sheet with the longest placard, and the sheet in force.
+-- What the proofs share: a sheet with the longest placard, and what is in force.
 pub mod Lengths
-pub mod Sheets
+pub mod Forces

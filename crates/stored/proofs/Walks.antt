@@ -2,28 +2,28 @@
 use mathlib.Core.Path.{_≡_, refl, sym, ap, _∙_}
 use mathlib.Core.Bool.{true}
 use mathlib.Core.List.{List, [], _∷_, _++_, map}
-use mathlib.Core.Option.{Option, none, some, orElse}
+use mathlib.Core.Option.{Option}
 use Prim.Native.Nat.{ℕ, _+_, _<_}
 use native.Mathlib.Omega.{arith}
 use lib.ListN.{length, length-append}
 use lib.Pow.{areBytes}
 use Rattle.laws.specs.Lists.{map-append, length-more}
 use Rattle.paper.specs.declared.Sheet.{Sheet}
+use Rattle.paper.specs.declared.Seat.{Seat}
 use Rattle.paper.specs.declared.Entry.{Entry}
-use Rattle.paper.specs.Record.{Balance, lastWeighing, balanceOf, asSheet, sheetOf}
+use Rattle.paper.specs.Record.{lastWeighing, balanceOf, sheetOf, isNone, sheetStands}
 use Rattle.paper.specs.Rows.{joined}
 use Rattle.paper.specs.File.{entryBytes}
 use Rattle.paper.specs.Refusals.{entryNumber}
 use Rattle.paper.specs.Journal.{withoutLast}
 use Rattle.paper.proofs.Lists.{joined-last, without-more}
-use Rattle.sheet.specs.declared.InForce.{InForce}
-use Rattle.sheet.specs.declared.InForce.the-variants.{Nothing as InForce·Nothing}
-use Rattle.sheet.specs.InForce.{found}
-use Rattle.sheet.proofs.Lists.{sheet-more}
+use Rattle.seat.specs.declared.InForce.{InForce}
+use Rattle.seat.specs.declared.InForce.the-variants.{Nothing as InForce·Nothing}
+use Rattle.seat.specs.InForce.{found, inForce, after as later}
+use Rattle.seat.proofs.Lists.{force-more}
 use Rattle.judge.specs.declared.Standing.{Standing}
-use Rattle.judge.specs.declared.Standing.the-variants.{Unweighed}
-use Rattle.judge.specs.Standing.{plainly, Sound, numberAt, after}
-use Rattle.judge.proofs.Following.{balance-more, number-at}
+use Rattle.judge.specs.Standing.{Stands, standsIn, nothing, plainly, Sound, numberAt, after}
+use Rattle.judge.proofs.Following.{stands-more, number-at}
 use Rattle.entries.specs.declared.Walk.the-variants.{Got}
 use Rattle.stored.specs.declared.Contents.{Contents}
 use Rattle.stored.specs.Kinds.{walkTo}
@@ -35,23 +35,14 @@ length-in es e =
     ap length (ap joined (map-append entryBytes es (e ∷ [])) ∙ joined-last (map entryBytes es) (entryBytes e))
     ∙ length-append (bytesIn es) (entryBytes e)
 
--- the sheet in force behind an entry that is no sheet, and behind one
-pub no-sheet : (e : Entry) (f : InForce) → asSheet e ≡ none → found f ≡ orElse (asSheet e) (found f)
-unfolding orElse
-no-sheet e f n = rw n
-
-pub this-sheet : (e : Entry) (t : Sheet) (f : InForce) → asSheet e ≡ some t → some t ≡ orElse (asSheet e) (found f)
-unfolding orElse
-this-sheet e t f n = rw n
-
 -- entries of kinds up to k are passed, and what is found so far are their contents
 pub record WalkedTo (s : List ℕ) (k count : ℕ) (c : Contents) : Type 0 where
   pub entries : List Entry
   pub passed : Passed s k count (c .count) (c .end) entries
   pub contents : ContentsOf entries c
 
-pub begun : (s : List ℕ) (k count : ℕ) → WalkedTo s k count (record { count = 0; standing = Unweighed; sheet = InForce·Nothing; last = 6; end = 6 })
-unfolding balanceOf lastWeighing sheetOf withoutLast joined
+pub begun : (s : List ℕ) (k count : ℕ) → WalkedTo s k count (record { count = 0; standing = nothing; sheet = InForce·Nothing; last = 6; end = 6 })
+unfolding standsIn balanceOf lastWeighing sheetStands isNone inForce sheetOf withoutLast joined
 begun s k count =
     record { entries = []; passed = none-passed s k count; contents = record { count = refl; stands = refl; sound = tt; sheet = refl; last = refl; end = refl } }
 
@@ -66,7 +57,7 @@ module _ (es : List Entry) (c : Contents) (x : ContentsOf es c) where
 module _ (s : List ℕ) (k count : ℕ) (c : Contents) (w : WalkedTo s k count c) where
   -- one entry more, which gets no number
   module _ (b : areBytes s ≡ true) (h : c .count < count) (e : Entry) (place : ℕ) (g : walkTo k s (c .end) ≡ Got e place) (n : numberAt (c .count) (plainly (c .standing)) e ≡ 0) where
-    pub gone-on : (t : Standing) (f : InForce) → plainly t ≡ after (plainly (c .standing)) e → Sound (c .count + 1) t → found f ≡ orElse (asSheet e) (found (c .sheet)) → WalkedTo s k count (record { count = c .count + 1; standing = t; sheet = f; last = c .end; end = place })
+    pub gone-on : (t : Standing) (f : InForce) → plainly t ≡ after (plainly (c .standing)) e → Sound (c .count + 1) t → found f ≡ later (found (c .sheet)) e → WalkedTo s k count (record { count = c .count + 1; standing = t; sheet = f; last = c .end; end = place })
     gone-on t f p q r =
         let es = w .entries in
         let x = w .contents in
@@ -76,9 +67,9 @@ module _ (s : List ℕ) (k count : ℕ) (c : Contents) (w : WalkedTo s k count c
           contents =
               record {
                 count = ap (λ (j : ℕ). j + 1) (x .count) ∙ sym (length-more es e);
-                stands = p ∙ ap (λ (o : Option Balance). after o e) (x .stands) ∙ sym (balance-more es e);
+                stands = p ∙ ap (λ (o : Stands). after o e) (x .stands) ∙ sym (stands-more es e);
                 sound = rw (length-more es e, ← x .count) q;
-                sheet = r ∙ ap (orElse (asSheet e)) (x .sheet) ∙ sym (sheet-more es e);
+                sheet = r ∙ ap (λ (o : Option (Sheet × Seat)). later o e) (x .sheet) ∙ sym (force-more es e);
                 last = x .end ∙ ap (λ (l : List Entry). 6 + length (bytesIn l)) (sym (without-more es e));
                 end = place-here s (c .end) k b e place g ∙ omega (arith, x .end, length-in es e);
               };

@@ -5,12 +5,11 @@ use mathlib.Core.Option.{Option, none, some}
 use Prim.Native.Nat.{ℕ, _+_}
 use lib.ListN.{length}
 use Rattle.paper.specs.declared.Entry.{Entry}
-use Rattle.paper.specs.Record.{balanceOf, sheetOf}
 use Rattle.paper.specs.Rows.{joined}
 use Rattle.paper.specs.File.{entryBytes}
 use Rattle.paper.specs.Journal.{withoutLast}
-use Rattle.judge.specs.Standing.{plainly, Sound}
-use Rattle.sheet.specs.InForce.{found}
+use Rattle.judge.specs.Standing.{standsIn, plainly, Sound}
+use Rattle.seat.specs.InForce.{found, inForce}
 use Rattle.stored.specs.declared.Contents.{Contents}
 use Rattle.stored.specs.declared.Stored.{Stored}
 use Rattle.stored.specs.declared.Stored.the-variants.{Nothing, File}
@@ -22,9 +21,9 @@ bytesIn es = joined (map entryBytes es)
 -- the contents of a list's file, whose first six bytes are the header
 pub record ContentsOf (es : List Entry) (c : Contents) : Type 0 where
   pub count : c .count ≡ length es
-  pub stands : plainly (c .standing) ≡ balanceOf es
+  pub stands : plainly (c .standing) ≡ standsIn es
   pub sound : Sound (length es) (c .standing)
-  pub sheet : found (c .sheet) ≡ sheetOf es
+  pub sheet : found (c .sheet) ≡ inForce es
   pub last : c .last ≡ 6 + length (bytesIn (withoutLast es))
   pub end : c .end ≡ 6 + length (bytesIn es)
 

@@ -250,8 +250,8 @@ fn heave(part: Change, i: usize, half: usize) -> Change {
 }
 
 /// Changes up to the 64th and 65th entry: the same part in turn, small ones,
-/// large ones, seldom with a seat between them or behind; then taking back, some of
-/// it or all and once more.
+/// large ones, at times with a seat between them or behind; then taking back, some
+/// of it or all and once more.
 fn changes_case(random: &mut Random) -> Vec<Call> {
     let glider = any_glider(random);
     let mut calls = glider.record(random);
@@ -584,6 +584,9 @@ mod tests {
         for _ in 0..400 {
             let mut glider = any_glider(&mut random);
             lighten(&mut random, &mut glider.sheet);
+            if random.one_in(2) {
+                glider.seat = Some(glider.any_seat(&mut random));
+            }
             let here = run(&glider.record_exactly(&mut random));
             let (ahead, back) = glider.datum_range();
             glider.move_datum(random.between(ahead, back));

@@ -5,10 +5,10 @@
 //! placard: from scale readings to the cockpit plate"). None of it was taken
 //! from the proved library, its documents or its tests, so a mistake in reading
 //! the paper there is not repeated here by copying. Where the two differ, one
-//! of them has misread the paper. Cards 1 and 2 of paper 02 ("Both readings
-//! stay", "Nobody in the seat") were added from the cards' words, but by someone
-//! who had read the definitions that the library is proved against: of them this
-//! is a second reckoning rather than a second reading.
+//! of them has misread the paper. Cards 1, 2 and 4 of paper 02 ("Both readings
+//! stay", "Nobody in the seat", "Adjustable seat backs") were added from the cards'
+//! words, but by someone who had read the definitions that the library is proved
+//! against: of them this is a second reckoning rather than a second reading.
 //!
 //! - [`paper`] follows the papers line by line, with plain loops and `i128`.
 //!   It is slow and meant to be compared with the paper by eye.

@@ -125,6 +125,10 @@ fn same(trial: &Trial, case: &Case) -> (Paper, Answers, Option<Plate>) {
     (paper, expected, Some(plate))
 }
 
+fn assert_all_over(least: u64, counts: &[u64]) {
+    assert!(counts.iter().all(|count| *count > least), "{counts:?}");
+}
+
 #[test]
 fn all_answer_as_the_paper_does() {
     let mut numbers = Numbers::default();
@@ -150,26 +154,11 @@ fn all_answer_as_the_paper_does() {
     }
     // The cases are worth something only while they are spread well.
     assert!(compared > CASES * 99 / 100);
-    assert!(
-        numbers.0.iter().all(|count| *count > 500),
-        "{:?}",
-        numbers.0
-    );
-    assert!(
-        card_1.0.iter().all(|count| *count > 1_000),
-        "{:?}",
-        card_1.0
-    );
-    assert!(
-        card_2.0.iter().all(|count| *count > 5_000),
-        "{:?}",
-        card_2.0
-    );
-    let Card4 { calls, ends } = card_4;
-    assert!(
-        calls.iter().chain(&ends).all(|count| *count > 500),
-        "{calls:?} {ends:?}"
-    );
+    assert_all_over(500, &numbers.0);
+    assert_all_over(1_000, &card_1.0);
+    assert_all_over(5_000, &card_2.0);
+    assert_all_over(500, &card_4.calls);
+    assert_all_over(500, &card_4.ends);
     assert!(rows > 300_000 && blank > rows / 5 && blank < rows / 2);
 }
 

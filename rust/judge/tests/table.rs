@@ -572,29 +572,11 @@ fn lend_a_buffer_of_version_1<C: Calls>() {
     let mut sides = Sides::new();
     sides.accept(&Call::Weigh(WEIGHING));
     sides.accept(&Call::Install(SHEET));
-    let mut lent = sides.journal.file_as(1);
-    lent.resize(210, 9);
+    let old = sides.journal.file_as(1);
+    let lent = [&old[..], &[9; 120]].concat();
     assert_eq!(C::check(&lent), 0);
     assert_eq!(C::centre(&lent), sides.centre());
-    for call in [
-        Call::Weigh(Weighing { m: 0, ..WEIGHING }),
-        Call::Pair(Paired {
-            q2: 300_011,
-            ..PAIRED
-        }),
-        Call::Install(Sheet { dry: 0, ..SHEET }),
-        Call::Change(Change { c: 0, ..CHANGE }),
-        Call::Seat(Seat {
-            higher: 0,
-            lower: 1,
-        }),
-        Call::Read(vec![0; 6]),
-    ] {
-        let mut after = lent.clone();
-        assert_ne!(C::call(&mut after, &call), 0);
-        assert_eq!(after, lent);
-    }
-    let old = lent[..89].to_vec();
+    refuse_on::<C>(&lent);
     for call in [
         Call::Weigh(WEIGHING),
         Call::Pair(PAIRED),
@@ -609,5 +591,27 @@ fn lend_a_buffer_of_version_1<C: Calls>() {
         assert_eq!(journal.call(&call), 0);
         let file = journal.file();
         assert_eq!((after[4], &after[..file.len()]), (2, &file[..]));
+    }
+}
+
+/// Calls that a record of a weighing and a sheet refuses.
+fn refuse_on<C: Calls>(lent: &[u8]) {
+    for call in [
+        Call::Weigh(Weighing { m: 0, ..WEIGHING }),
+        Call::Pair(Paired {
+            q2: 300_011,
+            ..PAIRED
+        }),
+        Call::Install(Sheet { dry: 0, ..SHEET }),
+        Call::Change(Change { c: 0, ..CHANGE }),
+        Call::Seat(Seat {
+            higher: 0,
+            lower: 1,
+        }),
+        Call::Read(vec![0; 6]),
+    ] {
+        let mut after = lent.to_vec();
+        assert_ne!(C::call(&mut after, &call), 0);
+        assert_eq!(after, lent);
     }
 }

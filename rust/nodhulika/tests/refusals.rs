@@ -316,18 +316,29 @@ fn the_first_in_order_is_given() {
     refused(&Record::new(), Refusal::Unweighed, |buffer| {
         change(buffer, &wrong)
     });
+    // A buffer that is also too short for the entry.
+    let mut tight = case_g().as_bytes().to_vec();
+    assert_eq!(change(&mut tight, &wrong), Err(Refusal::Arm));
+    assert_eq!(change(&mut tight[1..], &wrong), Err(Refusal::File));
+    assert_eq!(tight, case_g().as_bytes());
+}
+
+#[test]
+fn the_first_in_order_is_given_of_a_seat() {
     let reversed = Seat {
         lower: i64::MAX,
         higher: i64::MIN,
     };
-    refused(&full(), Refusal::Full, |buffer| seat(buffer, &reversed));
+    let mut unfitted = Record::new();
+    for _ in 0..64 {
+        assert_eq!(unfitted.weigh(&G_WEIGHING), Ok(()));
+    }
+    refused(&unfitted, Refusal::Full, |buffer| seat(buffer, &reversed));
     refused(&Record::new(), Refusal::NoSheet, |buffer| {
         seat(buffer, &reversed)
     });
     // A buffer that is also too short for the entry.
     let mut tight = case_g().as_bytes().to_vec();
-    assert_eq!(change(&mut tight, &wrong), Err(Refusal::Arm));
-    assert_eq!(change(&mut tight[1..], &wrong), Err(Refusal::File));
     assert_eq!(seat(&mut tight, &reversed), Err(Refusal::Arm));
     assert_eq!(seat(&mut tight[1..], &reversed), Err(Refusal::File));
     assert_eq!(tight, case_g().as_bytes());

@@ -137,8 +137,8 @@ within c =
     let says = rw (c .before .next .given .1) at (j .judge .ensures) in
     room-of (j .before .before .before .before .before .before .loop .i) _ _ (says .0)
 
-mul-t22 : tie.Need-mul-t22 Inv-loop μ-loop
-mul-t22 c = omega (arith, within c)
+mul-t23 : tie.Need-mul-t23 Inv-loop μ-loop
+mul-t23 c = omega (arith, within c)
 
 element-set-from-log : tie.Need-element-set-from-log Inv-loop μ-loop
 element-set-from-log c = within c
@@ -201,7 +201,7 @@ read-spec =
     enum-known-next
     enum-told-2
     returns-3
-    mul-t22
+    mul-t23
     element-set-from-log
     add-log
     add-i

@@ -5,10 +5,10 @@ use Rattle.files.proofs.main.Statement.{statement}
 use Rattle.files.proofs.main.Tie as tie
 
 abbrev Inv-loop : tie.InvT-loop
-Inv-loop counter₀ counter = counter ≤ 20
+Inv-loop counter₀ counter = counter ≤ 25
 
 abbrev μ-loop : tie.MeasureT-loop
-μ-loop counter₀ counter = 20 - counter
+μ-loop counter₀ counter = 25 - counter
 
 loop-holds : tie.Need-loop-holds Inv-loop μ-loop
 loop-holds c = search needs

@@ -1,4 +1,4 @@
--- `front::placard` meets its contract: what stands and the sheet in force are those of the list that the buffer holds.
+-- `front::placard` meets its contract: what stands and what is in force are those of the list that the buffer holds.
 -- Assumes nothing.
 use borrow.Author.Needs.{needs}
 use mathlib.Core.Path.{sym, _∙_}
@@ -6,7 +6,7 @@ use mathlib.Core.List.{List}
 use Prim.Native.Nat.{ℕ}
 use native.Mathlib.Omega.{arith}
 use lib.ListN.{length}
-use Rattle.sheet.proofs.Lists.{sheet-accepted}
+use Rattle.seat.proofs.Lists.{force-accepted}
 use Rattle.judge.proofs.Judging.{grown}
 use Rattle.judge.proofs.Accepted.{at-most-64}
 use Rattle.stored.specs.declared.Stored.the-variants.{File}
@@ -43,7 +43,7 @@ answer-requires c κs =
     let f = held k in
     let fine = held-accepted (buffer k) (f .0) (f .1) in (
       grown (length (f .0)) 1024 (k .before .found .given .0 .0 .standing) (omega (arith, at-most-64 (f .0) fine)) (f .2 .sound),
-      λ s e. sheet-accepted (f .0) s fine (sym (f .2 .sheet) ∙ e),
+      λ s g e. force-accepted (f .0) s g fine (sym (f .2 .sheet) ∙ e),
     )
 
 same-length : tie.Need-same-length

@@ -1,18 +1,17 @@
--- `plate::in_force` meets its contract. The loop's invariant: the last sheet of the first i slots is at hand. Assumes nothing.
-use mathlib.Core.Path.{_≡_, sym, ap, _∙_}
+-- `plate::in_force` meets its contract. The loop's invariant: what is in force by the first i slots is at hand. Assumes nothing.
+use mathlib.Core.Path.{_≡_, refl, sym, ap, _∙_}
 use Prim.Native.Nat.{_-_, _≤_}
 use native.Mathlib.Omega.{arith}
-use mathlib.Core.Path.{refl}
 use lib.ListN.{length, length-map}
-use Rattle.paper.specs.Record.{sheetOf}
+use Rattle.paper.specs.Record.{sheetOf, seatOf}
 use Rattle.record.specs.Held.{slotted}
-use Rattle.sheet.specs.InForce.{found}
-use Rattle.plate.proofs.Sheets.{sheetTo, slot-more}
+use Rattle.seat.specs.InForce.{found, inForce}
+use Rattle.plate.proofs.Forces.{forceTo, slot-more}
 use Rattle.plate.proofs.in_force.Statement.{statement}
 use Rattle.plate.proofs.in_force.Tie as tie
 
 abbrev Inv-loop : tie.InvT-loop
-Inv-loop r last₀ i₀ last i = (i ≤ r .count) × (found last ≡ sheetTo (r .slots) i)
+Inv-loop r last₀ i₀ last i = (i ≤ r .count) × (found last ≡ forceTo (r .slots) i)
 
 abbrev μ-loop : tie.MeasureT-loop
 μ-loop r last₀ i₀ last i = r .count - i
@@ -22,7 +21,7 @@ slots : (c : tie.Start Inv-loop μ-loop) → length (c .args .t1 .slots) ≡ 64
 slots c = sym (length-map (c .args .t1 .slots) _) ∙ c .good .0 .1 .1 .0 .1 .0 .1
 
 loop-holds : tie.Need-loop-holds Inv-loop μ-loop
-unfolding sheetOf
+unfolding inForce sheetOf seatOf
 loop-holds c = (omega arith, refl)
 
 mul-slot : tie.Need-mul-slot Inv-loop μ-loop
@@ -52,7 +51,7 @@ returns c =
     let l = c .before .loop in
     let r = c .before .before .args .t1 in
     let e : l .i ≡ r .count = omega arith in
-    l .inv .1 ∙ ap (sheetTo (r .slots)) e
+    l .inv .1 ∙ ap (forceTo (r .slots)) e
 
 pub in-force-spec : {M : Type 1} → statement M
 in-force-spec =

@@ -1,11 +1,10 @@
--- `plate::placard` meets its contract: what stands and the sheet in force are those of the list that the record holds.
+-- `plate::placard` meets its contract: what stands and what is in force are those of the list that the record holds.
 -- Assumes nothing.
 use borrow.Author.Needs.{needs}
 use mathlib.Core.Path.{_≡_, sym, ap, _∙_}
 use native.Mathlib.Omega.{arith}
-use Rattle.paper.specs.Record.{sheetOf}
-use Rattle.sheet.specs.InForce.{found}
-use Rattle.sheet.proofs.Lists.{sheet-accepted}
+use Rattle.seat.specs.InForce.{found, inForce}
+use Rattle.seat.proofs.Lists.{force-accepted}
 use Rattle.judge.proofs.Judging.{grown}
 use Rattle.record.specs.Held.{slotted, heldBy}
 use Rattle.record.proofs.Lists.{slotted-record}
@@ -22,19 +21,19 @@ in-force-requires c κs =
     let r = p .before .before .args .r in
     omega (arith, count-is (heldBy r) (p .replay .result) (p .replay .ensures), held-most r)
 
--- the sheet in force is the list's
-sheet : (c : tie.After-in-force) → found (c .in-force .result) ≡ sheetOf (heldBy (c .before .before .before .before .args .r))
-sheet c =
+-- what is in force is the list's
+force : (c : tie.After-in-force) → found (c .in-force .result) ≡ inForce (heldBy (c .before .before .before .before .args .r))
+force c =
     let p = c .before .before in
     let held = heldBy (p .before .before .args .r) in
-    c .in-force .ensures ∙ ap sheetOf (ap slotted (p .replay .ensures .log) ∙ slotted-record held)
+    c .in-force .ensures ∙ ap inForce (ap slotted (p .replay .ensures .log) ∙ slotted-record held)
 
 answer-requires : tie.Need-answer-requires
 answer-requires c κs =
     let p = c .before .before .before in
     let r = p .before .before .args .r in (
       grown _ 1024 (p .replay .result .standing) (omega (arith, held-most r)) (p .replay .ensures .sound),
-      λ s f. sheet-accepted (heldBy r) s (held-accepted r) (sym (sheet (c .before)) ∙ f),
+      λ s f e. force-accepted (heldBy r) s f (held-accepted r) (sym (force (c .before)) ∙ e),
     )
 
 same-length : tie.Need-same-length
@@ -45,7 +44,7 @@ returns c =
     let a = c .before .before in
     let f = a .before .before in
     let p = f .before .before in
-    a .answer .ensures (heldBy (p .before .before .args .r)) (p .replay .ensures .stands) (sheet f)
+    a .answer .ensures (heldBy (p .before .before .args .r)) (p .replay .ensures .stands) (force f)
 
 pub placard-spec : {M : Type 1} → statement M
 placard-spec =

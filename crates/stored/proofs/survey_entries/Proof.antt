@@ -2,22 +2,21 @@
 -- is at hand (`WalkedTo`). Assumes nothing.
 use mathlib.Core.Path.{_≡_, sym, ap, _∙_}
 use mathlib.Core.Bool.{true}
-use mathlib.Core.Option.{none, some, orElse}
+use mathlib.Core.Option.{Option, some}
 use Prim.Native.Nat.{_+_, _-_, _≤_}
 use native.Mathlib.Omega.{arith}
 use borrow.Author.Needs.{needs}
 use lib.Pow.{areBytes}
 use Rattle.paper.specs.declared.Sheet.{Sheet}
+use Rattle.paper.specs.declared.Seat.{Seat}
 use Rattle.paper.specs.declared.Entry.{Entry}
-use Rattle.paper.specs.Record.{asSheet}
 use Rattle.format.specs.Numbers.{bytes-at}
-use Rattle.sheet.specs.declared.InForce.{InForce}
-use Rattle.sheet.specs.declared.InForce.the-variants.{Found}
-use Rattle.sheet.specs.InForce.{found as in-force}
+use Rattle.seat.specs.declared.InForce.{InForce}
+use Rattle.seat.specs.InForce.{found as in-force, after}
 use Rattle.entries.specs.declared.Walk.the-variants.{Got}
 use Rattle.stored.specs.Kinds.{walkTo}
 use Rattle.stored.proofs.Reading.{no-entry, refused-entry, left-over, all-passed}
-use Rattle.stored.proofs.Walks.{WalkedTo, begun, no-sheet, this-sheet, sound-in, number-in, gone-on, counted}
+use Rattle.stored.proofs.Walks.{WalkedTo, begun, sound-in, number-in, gone-on, counted}
 use Rattle.stored.proofs.survey_entries.Statement.{statement}
 use Rattle.stored.proofs.survey_entries.Tie as tie
 
@@ -91,7 +90,7 @@ enum-told-3 c = search needs
 loop-less : tie.Need-loop-less Inv-loop μ-loop
 loop-less c = search needs
 
--- one entry more, whichever sheet is then in force
+-- one entry more, whatever is then in force
 module _ (k : tie.After-next Inv-loop μ-loop) where
   abbrev judged : tie.After-judge Inv-loop μ-loop
   judged = k .before .before
@@ -103,30 +102,40 @@ module _ (k : tie.After-next Inv-loop μ-loop) where
   With f =
       WalkedTo (loop .before .before .args .s .now) (loop .before .before .args .kinds) (loop .before .before .args .count) (record { count = loop .loop .i + 1; standing = k .next .given .0 .0; sheet = f; last = loop .loop .at; end = judged .before .before .entry .given .0 .1 .0 })
 
-  more : (f : InForce) → in-force f ≡ orElse (asSheet (entry judged)) (in-force (loop .loop .sheet)) → With f
+  abbrev before : Option (Sheet × Seat)
+  before = in-force (loop .loop .sheet)
+
+  -- what is in force then, by what the entry is
+  told : (e : Entry) → entry judged ≡ e → after before e ≡ after before (entry judged)
+  told e h = sym (ap (after before) h)
+
+  counted-on : loop .loop .i + 1 ≤ loop .before .before .args .count
+  counted-on = omega (arith, judged .before .before .before .before .before .loop-test .taken)
+
+  more : (f : InForce) → in-force f ≡ after before (entry judged) → With f
   more f e =
       let b = loop .before in
       let a = b .before .args in
       let says = rw (k .next .given .1) at (k .before .before .judge .ensures) in
       gone-on (a .s .now) (a .kinds) (a .count) _ (loop .loop .inv .1) (bytes b) (judged .before .before .before .before .before .loop-test .taken) (entry judged) _ (found judged) (says .0) _ f (says .1) (says .2) e
 
-  no-sheet-more : asSheet (entry judged) ≡ none → With (loop .loop .sheet)
-  no-sheet-more e = more (loop .loop .sheet) (no-sheet (entry judged) (loop .loop .sheet) e)
-
-  sheet-more : (t : Sheet) → asSheet (entry judged) ≡ some t → With (Found t)
-  sheet-more t e = more (Found t) (this-sheet (entry judged) t (loop .loop .sheet) e)
-
 loop-again : tie.Need-loop-again Inv-loop μ-loop
-loop-again c = (omega arith, no-sheet-more (c .before .before .before) (ap asSheet (c .enum-told3 .given .1)))
+loop-again c = let k = c .before .before .before in (counted-on k, more k _ (told k _ (c .enum-told3 .given .1)))
 
 enum-known-entry-2 : tie.Need-enum-known-entry-2 Inv-loop μ-loop
 enum-known-entry-2 c = search needs
+
+fixed-requires : tie.Need-fixed-requires Inv-loop μ-loop
+fixed-requires c κs = search needs
 
 loop-less-2 : tie.Need-loop-less-2 Inv-loop μ-loop
 loop-less-2 c = search needs
 
 loop-again-2 : tie.Need-loop-again-2 Inv-loop μ-loop
-loop-again-2 c = (omega arith, sheet-more (c .before .before .before .before) _ (ap asSheet (c .before .entry2 .given .1)))
+loop-again-2 c =
+    let e = c .before .before in
+    let k = e .before .before .before in
+    (counted-on k, more k _ (ap {B = Option (Sheet × Seat)} (λ (f : Seat). some (e .entry2 .given .0 .0, f)) (c .fixed .ensures) ∙ told k _ (e .entry2 .given .1)))
 
 enum-told-4 : tie.Need-enum-told-4 Inv-loop μ-loop
 enum-told-4 c = search needs
@@ -135,7 +144,7 @@ loop-less-3 : tie.Need-loop-less-3 Inv-loop μ-loop
 loop-less-3 c = search needs
 
 loop-again-3 : tie.Need-loop-again-3 Inv-loop μ-loop
-loop-again-3 c = (omega arith, no-sheet-more (c .before .before .before) (ap asSheet (c .enum-told4 .given .1)))
+loop-again-3 c = let k = c .before .before .before in (counted-on k, more k _ (told k _ (c .enum-told4 .given .1)))
 
 enum-told-5 : tie.Need-enum-told-5 Inv-loop μ-loop
 enum-told-5 c = search needs
@@ -144,7 +153,22 @@ loop-less-4 : tie.Need-loop-less-4 Inv-loop μ-loop
 loop-less-4 c = search needs
 
 loop-again-4 : tie.Need-loop-again-4 Inv-loop μ-loop
-loop-again-4 c = (omega arith, no-sheet-more (c .before .before .before) (ap asSheet (c .enum-told5 .given .1)))
+loop-again-4 c = let k = c .before .before .before in (counted-on k, more k _ (told k _ (c .enum-told5 .given .1)))
+
+enum-known-entry-3 : tie.Need-enum-known-entry-3 Inv-loop μ-loop
+enum-known-entry-3 c = search needs
+
+moved-requires : tie.Need-moved-requires Inv-loop μ-loop
+moved-requires c κs = search needs
+
+loop-less-5 : tie.Need-loop-less-5 Inv-loop μ-loop
+loop-less-5 c = search needs
+
+loop-again-5 : tie.Need-loop-again-5 Inv-loop μ-loop
+loop-again-5 c =
+    let e = c .before .before in
+    let k = e .before .before .before in
+    (counted-on k, more k _ (c .moved .ensures ∙ told k _ (e .entry3 .given .1)))
 
 returns-3 : tie.Need-returns-3 Inv-loop μ-loop
 returns-3 c =
@@ -183,6 +207,7 @@ survey-entries-spec =
     loop-less
     loop-again
     enum-known-entry-2
+    fixed-requires
     loop-less-2
     loop-again-2
     enum-told-4
@@ -191,5 +216,9 @@ survey-entries-spec =
     enum-told-5
     loop-less-4
     loop-again-4
+    enum-known-entry-3
+    moved-requires
+    loop-less-5
+    loop-again-5
     returns-3
     returns-4)

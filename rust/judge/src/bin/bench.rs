@@ -10,14 +10,15 @@
 //! what else the machine does meets both; what counts is the ratio of each round.
 //!
 //! Each side works on records that it has written itself. So the instructions of
-//! an archive from before paired weighings can be counted as well, by the same
-//! lines but one: with `NODHULIKA_LIB_DIR` set to its folder, and with
-//! `RUSTFLAGS="-C link-arg=-Wl,--defsym=nodhulika_weigh_paired=0"`.
+//! an archive from before seats can be counted as well, by the lines that it can run:
+//! with `NODHULIKA_LIB_DIR` set to its folder, and with
+//! `RUSTFLAGS="-C link-arg=-Wl,--defsym=nodhulika_seat=0"`; of one from before paired
+//! weighings with the same argument for `nodhulika_weigh_paired` beside it.
 
 #![forbid(unsafe_code)]
 
 use judge::generate::{case, Case};
-use judge::paper::{Call, Change, Counts, Paired, Sheet, Weighing};
+use judge::paper::{Call, Change, Counts, Paired, Seat, Sheet, Weighing};
 use judge::run::{front_file, Calls, Fast};
 use library::Library;
 use std::env;
@@ -132,6 +133,12 @@ const SHEET: Sheet = Sheet {
     water_arm: 30_000,
     capacity: 0,
     water_step: 8_000,
+};
+
+/// Its seat, where the back can be adjusted.
+const SEAT: Seat = Seat {
+    lower: -134_000,
+    higher: -126_000,
 };
 
 /// The sheet with one row, or with a multiple of 16.
@@ -268,10 +275,12 @@ enum Job {
     Fleet,
     /// Reading the file of 64 paired weighings.
     CheckPairs,
+    /// Reading the file of a sheet and 63 seats.
+    CheckSeats,
 }
 
 /// The lines of the benchmark.
-const LINES: [(&str, Job); 7] = [
+const LINES: [(&str, Job); 8] = [
     (
         "a. placard of 256 rows, 64 entries",
         Job::Placard {
@@ -288,14 +297,14 @@ const LINES: [(&str, Job); 7] = [
     ("c. a change refused with 9", Job::RefusedChange),
     ("d. placards of 4,000 gliders", Job::Fleet),
     ("e. reading 64 paired weighings", Job::CheckPairs),
+    ("e. reading a sheet and 63 seats", Job::CheckSeats),
 ];
 
-/// Those that the linked library can run: paired weighings came with version 2 of
-/// the file.
+/// Those that the linked library can run, by the files that it takes: an older one
+/// has no paired weighings or no seats.
 fn lines() -> Vec<(&'static str, Job)> {
-    let file = Builder::<Library>::new().file();
-    let has_pairs = file[4] >= 2;
-    let runs = |job| has_pairs || !matches!(job, Job::CheckPairs);
+    let takes = |job: Job| Library::check(&job.desk::<Fast>().records[0]) == 0;
+    let runs = |job| !matches!(job, Job::CheckPairs | Job::CheckSeats) || takes(job);
     LINES.into_iter().filter(|(_, job)| runs(*job)).collect()
 }
 
@@ -327,6 +336,11 @@ impl Job {
                 while record.add(&Call::Pair(PAIRED)) {}
                 vec![record.file()]
             }
+            Job::CheckSeats => {
+                record.put(&sheet(256));
+                while record.add(&Call::Seat(SEAT)) {}
+                vec![record.file()]
+            }
             Job::CheckChanges | Job::UndoAndChange | Job::RefusedChange => {
                 record.put(&Call::Weigh(WEIGHING));
                 record.put(&sheet(256));
@@ -350,7 +364,7 @@ impl Job {
                 .map(|record| C::placard(black_box(record), black_box(plate)))
                 .map(|answer| answer.map_or_else(|number| number, |counts| counts.blank as u64))
                 .sum(),
-            Job::CheckSheets | Job::CheckChanges | Job::CheckPairs => {
+            Job::CheckSheets | Job::CheckChanges | Job::CheckPairs | Job::CheckSeats => {
                 C::check(black_box(&records[0]))
             }
             Job::UndoAndChange => {

@@ -159,13 +159,15 @@ struct Outcome {
     paper: Side,
     direct: Side,
     fast: Side,
+    /// Whether the record has a seat in force in the end.
+    seat: bool,
     faults: Vec<String>,
 }
 
 impl Outcome {
     fn of(trial: &Trial) -> Outcome {
         let (lent, library) = Side::run::<By<Library>>("library", trial, |_| true);
-        let (_, paper) = Side::run::<Paper>("paper", trial, |paper| paper.work() <= WORK);
+        let (record, paper) = Side::run::<Paper>("paper", trial, |paper| paper.work() <= WORK);
         let (_, direct) = Side::run::<By<Direct>>("direct", trial, |_| true);
         let (_, fast) = Side::run::<By<Fast>>("fast", trial, |_| true);
         let mut outcome = Outcome {
@@ -173,6 +175,9 @@ impl Outcome {
             paper,
             direct,
             fast,
+            seat: record
+                .journal
+                .is_some_and(|journal| journal.seat().is_some()),
             faults: Vec::new(),
         };
         outcome.compare();
@@ -305,8 +310,9 @@ struct Tally {
     /// Files lent as they are.
     found: u64,
     calls: u64,
-    /// Placards given, and their rows.
+    /// Placards given, those with a seat in force, and their rows.
     placards: u64,
+    seats: u64,
     rows: u64,
     /// Placards that took plain loops too long.
     direct_only: u64,
@@ -329,6 +335,7 @@ impl Tally {
             self.numbers[plate.answer.err().unwrap_or(0) as usize][2] += 1;
             if let Ok(counts) = plate.answer {
                 self.placards += 1;
+                self.seats += u64::from(outcome.seat);
                 self.rows += counts.rows as u64;
             }
         }
@@ -341,6 +348,7 @@ impl Display for Tally {
         writeln!(f, "files lent as they are  {:12}", self.found)?;
         writeln!(f, "calls                   {:12}", self.calls)?;
         writeln!(f, "placards                {:12}", self.placards)?;
+        writeln!(f, "  with a seat           {:12}", self.seats)?;
         writeln!(f, "  with direct only      {:12}", self.direct_only)?;
         writeln!(f, "rows                    {:12}", self.rows)?;
         writeln!(f, "\nnumber        calls      centres     placards")?;

@@ -126,6 +126,7 @@ fn wrong_byte(random: &mut Random, file: &mut [u8]) {
 fn refused_entry(random: &mut Random, mut journal: Journal) -> Journal {
     let glider = any_glider(random);
     let (w, s, c) = (glider.weigh(random), glider.sheet, glider.part(random));
+    let seat = glider.any_seat(random);
     let mut at = random.below(journal.entries.len() as u64 + 1) as usize;
     let entry = match random.below(11) {
         0 => {
@@ -153,12 +154,9 @@ fn refused_entry(random: &mut Random, mut journal: Journal) -> Journal {
         }
         7 => {
             at = 0;
-            Entry::Seat(glider.any_seat(random))
+            Entry::Seat(seat)
         }
-        8 | 9 => {
-            let seat = glider.any_seat(random);
-            Entry::Seat(edge_seat(random, seat))
-        }
+        8 | 9 => Entry::Seat(edge_seat(random, seat)),
         _ => Entry::Change(edge_change(random, c)),
     };
     journal.entries.insert(at, entry);

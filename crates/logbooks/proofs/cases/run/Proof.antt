@@ -5,10 +5,10 @@ use Rattle.logbooks.proofs.cases.run.Statement.{statement}
 use Rattle.logbooks.proofs.cases.run.Tie as tie
 
 abbrev Inv-loop : tie.InvT-loop
-Inv-loop counter₀ counter = counter ≤ 20
+Inv-loop counter₀ counter = counter ≤ 28
 
 abbrev μ-loop : tie.MeasureT-loop
-μ-loop counter₀ counter = 20 - counter
+μ-loop counter₀ counter = 28 - counter
 
 loop-holds : tie.Need-loop-holds Inv-loop μ-loop
 loop-holds c = search needs
