@@ -16,9 +16,9 @@ use Rattle.paper.specs.declared.Entry.{Entry}
 use Rattle.paper.specs.Placard.{feed}
 use Rattle.paper.specs.Refusals.{accepted, acceptedAfter}
 use Rattle.paper.specs.Journal.{undo, callOf, callNumber, acceptedCall, afterBy}
+use Rattle.paper.proofs.Calls.{entry-number, entry-added}
 use Rattle.judge.specs.declared.Standing.{Standing}
-use Rattle.judge.specs.declared.Standing.the-variants.{Unweighed}
-use Rattle.judge.specs.Standing.{plainly, Sound, numberAt, after}
+use Rattle.judge.specs.Standing.{nothing, plainly, Sound, numberAt, after}
 use Rattle.judge.proofs.Accepted.{accepted-more}
 use Rattle.record.specs.declared.Record.{Record}
 use Rattle.record.specs.declared.Kept.{Kept}
@@ -31,7 +31,7 @@ use Rattle.language.specs.declared.Line.the-variants as line
 use Rattle.language.specs.Lines.{says}
 use Rattle.book.specs.declared.Ending.the-variants as ending
 use Rattle.book.specs.Books.{Outcome, stands, refused, notUnderstood, called, afterLine, afterLines, bookOf, failing, readingOf}
-use Rattle.book.proofs.Turns.{refused-stays, not-understood-stays, after-more, after-empty, after-none, called-refused, called-accepted, entry-number, entry-added}
+use Rattle.book.proofs.Turns.{refused-stays, not-understood-stays, after-more, after-empty, after-none, called-refused, called-accepted}
 
 -- the lines up to a place are read: they come to a list, which calls give, and the record is that of the list
 pub record ReadTo (s : List ℕ) (log : Record) (standing : Standing) (at line : ℕ) : Type 0 where
@@ -42,7 +42,7 @@ pub record ReadTo (s : List ℕ) (log : Record) (standing : Standing) (at line :
   pub within : at ≤ length s
   pub count : line ≤ at
 
-pub none-read : (s : List ℕ) (log : Record) → log ≡ recordOf [] → ReadTo s log Unweighed 0 0
+pub none-read : (s : List ℕ) (log : Record) → log ≡ recordOf [] → ReadTo s log nothing 0 0
 unfolding accepted acceptedAfter bookOf
 none-read s log e =
     record { entries = []; fine = refl; is = begun log e; rest = refl; within = omega arith; count = omega arith }

@@ -5,9 +5,7 @@ use Prim.Native.Nat.{ℕ, suc, _+_, _<_}
 use native.Mathlib.Omega.{arith}
 use borrow.Author.Tests.{eq-eqb, ne-eqb}
 use Rattle.paper.specs.declared.Entry.{Entry}
-use Rattle.paper.specs.declared.Entry.the-variants as entry
-use Rattle.paper.specs.Refusals.{entryNumber}
-use Rattle.paper.specs.Journal.{Call, callNumber, acceptedCall, callOf}
+use Rattle.paper.specs.Journal.{Call, callNumber, acceptedCall}
 use Rattle.language.specs.Lines.{passedOver, says}
 use Rattle.book.specs.Books.{Outcome, stands, refused, notUnderstood, called, afterLine, afterLines}
 
@@ -48,18 +46,3 @@ called-refused i es x h = rw (ne-eqb (callNumber es x) 0 (λ e. omega arith))
 pub called-accepted : (i : ℕ) (es : List Entry) (x : Call) → callNumber es x ≡ 0 → called i es x ≡ stands (acceptedCall es x)
 unfolding called
 called-accepted i es x e = rw (eq-eqb (callNumber es x) 0 e)
-
--- the call of an entry
-pub entry-number : (es : List Entry) (e : Entry) → callNumber es (callOf e) ≡ entryNumber es e
-unfolding callNumber callOf entryNumber
-entry-number es (entry.Weighing w) = refl
-entry-number es (entry.Sheet s) = refl
-entry-number es (entry.Change x) = refl
-entry-number es (entry.Paired x) = refl
-
-pub entry-added : (es : List Entry) (e : Entry) → acceptedCall es (callOf e) ≡ es ++ e ∷ []
-unfolding acceptedCall callOf
-entry-added es (entry.Weighing w) = refl
-entry-added es (entry.Sheet s) = refl
-entry-added es (entry.Change x) = refl
-entry-added es (entry.Paired x) = refl

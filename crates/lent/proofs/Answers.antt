@@ -10,14 +10,13 @@ use borrow.Author.Tests.{eq-eqb, ne-eqb}
 use Rattle.laws.specs.Lists.{length-more}
 use Rattle.laws.specs.Written.{written}
 use Rattle.paper.specs.declared.Entry.{Entry}
-use Rattle.paper.specs.declared.Entry.the-variants as entry
 use Rattle.paper.specs.declared.Written.{Written}
 use Rattle.paper.specs.Rows.{joined}
 use Rattle.paper.specs.File.{bytesOf, entryBytes, bodyAs, fileAs, version, fileBytes}
 use Rattle.paper.specs.Record.{isNone}
-use Rattle.paper.specs.Refusals.{entryNumber, fileOf, firstNumber, readingNumber}
+use Rattle.paper.specs.Refusals.{fileOf, firstNumber, readingNumber}
 use Rattle.paper.specs.Answers.{over}
-use Rattle.paper.specs.Journal.{Call, undo, read, callOf, callNumber, acceptedCall, withoutLast, entriesOr}
+use Rattle.paper.specs.Journal.{Call, undo, read, callNumber, acceptedCall, withoutLast, entriesOr}
 use Rattle.paper.proofs.Lists.{last-apart}
 use Rattle.format.specs.Files.{same-length, file-accepted}
 use Rattle.record.proofs.Calls.{undo-bare, undo-some}
@@ -102,23 +101,6 @@ module _ (x : Call) (s : List ℕ) where
     pub accepted-held : callNumber es x ≡ 0 → lentCall x s ≡ lentFile (acceptedCall es x) s
     unfolding lentCall
     accepted-held k = ap (λ o. lentBy o x s) h ∙ by-accepted es x s k
-
--- the call that adds an entry
-pub number-of : (es : List Entry) (e : Entry) → callNumber es (callOf e) ≡ entryNumber es e
-unfolding callNumber callOf entryNumber
-number-of es (entry.Weighing w) = refl
-number-of es (entry.Sheet t) = refl
-number-of es (entry.Change x) = refl
-number-of es (entry.Paired x) = refl
-number-of es (entry.Seat f) = refl
-
-pub list-of : (es : List Entry) (e : Entry) → acceptedCall es (callOf e) ≡ es ++ e ∷ []
-unfolding acceptedCall callOf
-list-of es (entry.Weighing w) = refl
-list-of es (entry.Sheet t) = refl
-list-of es (entry.Change x) = refl
-list-of es (entry.Paired x) = refl
-list-of es (entry.Seat f) = refl
 
 -- taking back: nothing to take back, or the header of one entry less
 module _ (s : List ℕ) (es : List Entry) (h : heldIn s ≡ some es) where

@@ -10,7 +10,7 @@ use lib.Dec.{ltb, eqb}
 use lib.ListN.{length, take, drop}
 use lib.Seq.{take-append-seam}
 use denote.Ref.{now}
-use borrow.Author.Tests.{eq-eqb, eqb-true}
+use borrow.Author.Tests.{eqb-true}
 use Rattle.laws.specs.Splits.{split, split-part}
 use Rattle.laws.specs.Lists.{Each, each-more, each-append}
 use Rattle.laws.specs.Tests.{left, right}
@@ -19,9 +19,9 @@ use Rattle.paper.specs.declared.Entry.the-variants as entry
 use Rattle.paper.specs.declared.CentreOfGravity.{CentreOfGravity}
 use Rattle.paper.specs.declared.Written.{Written}
 use Rattle.paper.specs.Placard.{feed}
-use Rattle.paper.specs.Record.{alike, paired}
-use Rattle.paper.specs.Refusals.{firstNumber, _when_, entryNumber, acceptedAfter, accepted, weighingNumber, sheetNumber, changeNumber}
-use Rattle.paper.specs.Journal.{callNumber, acceptedCall, callOf}
+use Rattle.paper.specs.Refusals.{firstNumber, _when_, entryNumber, acceptedAfter, accepted}
+use Rattle.paper.specs.Journal.{callOf}
+use Rattle.paper.proofs.Calls.{entry-number, entry-added}
 use Rattle.paper.specs.Answers.{centreAnswer, over, writtenBy}
 use Rattle.numerals.specs.Numerals.{numeral}
 use Rattle.numerals.proofs.Words.{numeral-above}
@@ -37,6 +37,7 @@ use Rattle.record.proofs.Following.{Made}
 use Rattle.book.specs.declared.Reading.{Reading}
 use Rattle.book.specs.declared.Ending.the-variants as ending
 use Rattle.book.specs.Books.{Outcome, stands, called, afterLine, afterLines, bookOf, readingOf}
+use Rattle.book.proofs.Turns.{called-accepted}
 use Rattle.book.proofs.read.Reads as read
 use Rattle.listing.specs.Listings.{totalText, momentText, centreText, halves, signedHalves, comment, remark, linesOf, listedAfter, listing, listedAnswer}
 use Rattle.listing.proofs.Halves.{halves-above, signed-above}
@@ -61,11 +62,7 @@ last-line i es = refl
 
 -- an entry that gets no number, by its call
 entry-called : (i : ℕ) (es : List Entry) (e : Entry) → entryNumber es e ≡ 0 → called i es (callOf e) ≡ stands (es ++ e ∷ [])
-unfolding called callOf callNumber acceptedCall entryNumber
-entry-called i es (entry.Weighing w) n = rw (eq-eqb (weighingNumber es (alike w)) 0 n)
-entry-called i es (entry.Sheet s) n = rw (eq-eqb (sheetNumber es s) 0 n)
-entry-called i es (entry.Change x) n = rw (eq-eqb (changeNumber es x) 0 n)
-entry-called i es (entry.Paired x) n = rw (eq-eqb (weighingNumber es (paired x)) 0 n)
+entry-called i es e n = called-accepted i es (callOf e) (entry-number es e ∙ n) ∙ ap stands (entry-added es e)
 
 -- a line that says it
 entry-line : (i : ℕ) (es : List Entry) (e : Entry) (l : List ℕ) (ls : List (List ℕ)) → says l ≡ line.Entry e → entryNumber es e ≡ 0 → afterLines i (stands es) (l ∷ ls) ≡ afterLines (suc i) (stands (es ++ e ∷ [])) ls
@@ -117,6 +114,7 @@ remark-passed es c (entry.Weighing w) rest o h i = comment-passed i es c rest �
 remark-passed es c (entry.Sheet s) rest o h i = h i
 remark-passed es c (entry.Change x) rest o h i = comment-passed i es c rest ∙ h (suc i)
 remark-passed es c (entry.Paired x) rest o h i = comment-passed i es c rest ∙ h (suc i)
+remark-passed es c (entry.Seat f) rest o h i = h i
 
 -- ---- a listing
 

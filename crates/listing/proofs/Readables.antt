@@ -47,6 +47,7 @@ fields-narrow (entry.Weighing w) = refl
 fields-narrow (entry.Sheet s) = refl
 fields-narrow (entry.Change x) = refl
 fields-narrow (entry.Paired x) = refl
+fields-narrow (entry.Seat f) = refl
 
 all-small : (fs : List Field) (vs : List ℤ) → AllFit fs vs → narrow fs ≡ true → Each (λ (v : ℤ). natAbs v < 10 ^ 18) vs
 all-small [] [] done n = tt

@@ -48,6 +48,7 @@ remark-most c (entry.Weighing w) = comment-most c
 remark-most c (entry.Sheet s) = omega arith
 remark-most c (entry.Change x) = comment-most c
 remark-most c (entry.Paired x) = comment-most c
+remark-most c (entry.Seat f) = omega arith
 
 pub lines-most : (c : CentreOfGravity) (e : Entry) → length (linesOf c e) ≤ 430
 lines-most c e = omega (arith, length-lines c e, text-most e, remark-most c e)

@@ -7,11 +7,10 @@ use native.Mathlib.Omega.{arith}
 use lib.ListN.{length, getD}
 use Rattle.paper.specs.declared.Entry.{Entry}
 use Rattle.paper.specs.declared.CentreOfGravity.{CentreOfGravity}
-use Rattle.paper.specs.Record.{balanceOf}
 use Rattle.paper.specs.Refusals.{entryNumber}
 use Rattle.paper.specs.Answers.{centreAnswer}
 use Rattle.judge.specs.declared.Standing.{Standing}
-use Rattle.judge.specs.Standing.{plainly, Sound, numberAt, after}
+use Rattle.judge.specs.Standing.{standsIn, plainly, Sound, numberAt, after}
 use Rattle.judge.proofs.Accepted.{room-for}
 use Rattle.record.specs.declared.Slot.{Slot}
 use Rattle.record.specs.Held.{entryIn}
@@ -52,8 +51,8 @@ module _ (slots : List Slot) (i n : ℕ) (d : Slot) (s : Standing) (h : i < leng
 
     -- and what stands then
     module _ (t : Standing) (p : plainly t ≡ after (plainly s) e) (q : Sound (n + 1) t) where
-      pub balance-is : plainly t ≡ balanceOf (es ++ e ∷ [])
-      balance-is = one-stands es n s at e t p q .stands
+      pub stands-is : plainly t ≡ standsIn (es ++ e ∷ [])
+      stands-is = one-stands es n s at e t p q .stands
 
       pub stands-more : StandsAt (heldTo slots (i + 1)) (n + 1) t
       stands-more = rw more (one-stands es n s at e t p q)

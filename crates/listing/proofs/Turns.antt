@@ -9,6 +9,7 @@ use types.Run.{OneOf}
 use Rattle.paper.specs.declared.Entry.{Entry}
 use Rattle.paper.specs.declared.Entry.the-variants as entry
 use Rattle.paper.specs.declared.Sheet.{Sheet}
+use Rattle.paper.specs.declared.Seat.{Seat}
 use Rattle.paper.specs.declared.CentreOfGravity.{CentreOfGravity}
 use Rattle.paper.specs.Placard.{feed}
 use Rattle.paper.specs.Answers.{centreAnswer}
@@ -28,7 +29,7 @@ pub listing-more : (fs : List Entry) (f : Entry) → listing (fs ++ f ∷ []) �
 unfolding listing listedAfter
 listing-more fs f = listed-append [] fs (f ∷ []) ∙ ap (λ (l : List ℕ). listedAfter [] fs ++ l) (append-nil (linesOf (centreAnswer (fs ++ f ∷ [])) f))
 
--- an entry that is no sheet has a comment
+-- an entry that is no sheet and no seat has a comment
 pub commented : (c : CentreOfGravity) (e : Entry) → OneOf (0 ∷ 2 ∷ 3 ∷ []) (tagOf the-type e) → remark c e ≡ comment c
 unfolding remark
 commented c (entry.Weighing w) h = refl
@@ -37,11 +38,18 @@ commented c (entry.Sheet s) (inr (inl h)) = absurd (omega arith)
 commented c (entry.Sheet s) (inr (inr h)) = absurd (omega arith)
 commented c (entry.Change x) h = refl
 commented c (entry.Paired x) h = refl
+commented c (entry.Seat f) (inl h) = absurd (omega arith)
+commented c (entry.Seat f) (inr (inl h)) = absurd (omega arith)
+commented c (entry.Seat f) (inr (inr h)) = absurd (omega arith)
 
--- a sheet has none
-pub uncommented : (c : CentreOfGravity) (e : Entry) (s : Sheet) → e ≡ entry.Sheet s → remark c e ≡ []
+-- a sheet and a seat have none
+pub bare-sheet : (c : CentreOfGravity) (e : Entry) (s : Sheet) → e ≡ entry.Sheet s → remark c e ≡ []
 unfolding remark
-uncommented c e s h = rw h
+bare-sheet c e s h = rw h
+
+pub bare-seat : (c : CentreOfGravity) (e : Entry) (f : Seat) → e ≡ entry.Seat f → remark c e ≡ []
+unfolding remark
+bare-seat c e f h = rw h
 
 -- the lines of an entry, its text and the line feed apart
 pub lines-parts : (c : CentreOfGravity) (e : Entry) → entryText e ++ feed ∷ [] ++ remark c e ≡ linesOf c e

@@ -3,3 +3,4 @@ pub mod Units
 pub mod Numbers
 pub mod Weighings
 pub mod Lists
+pub mod Calls

@@ -1,11 +1,11 @@
 // The record's calls by letters.
+use crate::reread;
 use crate::sample::change;
 use crate::sample::lax_sheet;
 use crate::sample::ordinary_sheet;
 use crate::sample::paired;
 use crate::sample::seat;
 use crate::sample::weighing;
-use crate::stored;
 use crate::texts::byte_at;
 use lines::between;
 use record::Kept;
@@ -29,10 +29,10 @@ fn called(r: Record, call: &[u8]) -> Kept {
         b'l' => r.install(lax_sheet(other)),
         b'c' => r.change(change(other)),
         b'a' => r.adjust_seat(seat(other)),
-        b'r' => stored::read_again(r),
-        b'g' => stored::read_g(r, 2, 89),
-        b'x' => stored::read_g(r, 2, 88),
-        b'o' => stored::read_g(r, 1, 89),
+        b'r' => reread::read_again(r),
+        b'g' => reread::read_g(r, 2, 89),
+        b'x' => reread::read_g(r, 2, 88),
+        b'o' => reread::read_g(r, 1, 89),
         b'-' => r.undo(),
         _ => fresh(),
     }

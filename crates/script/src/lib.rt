@@ -4,6 +4,6 @@
 // and = makes a fresh record. The letters behind w, v, u, p, s, l, c and a are the fields that are not as in src/calls.rt and
 // src/sample.rt.
 pub mod calls;
+mod reread;
 mod sample;
-mod stored;
 pub mod texts;

@@ -127,11 +127,11 @@ replay-requires : tie.Need-replay-requires Inv-loop μ-loop
 replay-requires c κs = search needs
 
 loop-less-2 : tie.Need-loop-less-2 Inv-loop μ-loop
-loop-less-2 c = less (c .before .before .before .before .before .before .before)
+loop-less-2 c = less (c .before .before .before .before .before .before .before .before)
 
 loop-again-2 : tie.Need-loop-again-2 Inv-loop μ-loop
 loop-again-2 c =
-    let p = c .before in
+    let p = c .before .before in
     let u = p .before .before .before in
     let b = u .before .before .before in
     undone (line-at b) (at-loop b .loop .inv) (sym (said b) ∙ u .before .enum-told3 .given .1) (u .undo .result) (u .undo .ensures) (p .before .if1 .left) (p .replay .result) (p .replay .ensures)
@@ -190,8 +190,8 @@ within c =
     let yes = rw (c .before .next .given .1) at (judgement j) in
     room-of (log t .count) (plainly (standing t)) (what t) (yes .0)
 
-mul-t29 : tie.Need-mul-t29 Inv-loop μ-loop
-mul-t29 c = omega (arith, within c)
+mul-t30 : tie.Need-mul-t30 Inv-loop μ-loop
+mul-t30 c = omega (arith, within c)
 
 element-set-from-log : tie.Need-element-set-from-log Inv-loop μ-loop
 element-set-from-log c = omega (arith, within c)
@@ -246,7 +246,7 @@ read-spec =
     failing-requires-3
     returns-3
     enum-known-next
-    mul-t29
+    mul-t30
     element-set-from-log
     add-log
     loop-less-3

@@ -15,7 +15,8 @@ use Rattle.stored.proofs.Walks.{sound-in, number-in}
 use Rattle.front.specs.Front.{heldIn}
 use Rattle.lent.specs.Lent.{lentFile}
 use Rattle.front.proofs.Fronts.{held-file, held-room}
-use Rattle.lent.proofs.Answers.{none-held, refused-held, accepted-held, number-of, list-of}
+use Rattle.paper.proofs.Calls.{entry-number, entry-added}
+use Rattle.lent.proofs.Answers.{none-held, refused-held, accepted-held}
 use Rattle.lent.proofs.add.Statement.{statement}
 use Rattle.lent.proofs.add.Tie as tie
 
@@ -53,7 +54,7 @@ number c =
     let k = c .before in
     let f = held k in
     let e = k .before .before .before .before .before .before .args .e in
-    c .number .ensures ∙ number-in (f .0) _ (f .2) e ∙ sym (number-of (f .0) e)
+    c .number .ensures ∙ number-in (f .0) _ (f .2) e ∙ sym (entry-number (f .0) e)
 
 same-length-2 : tie.Need-same-length-2
 same-length-2 c = search needs
@@ -90,7 +91,7 @@ returns-3 c =
     let file = held-file (buffer k) es (f .1) in
     let end = ap (λ (n : ℕ). take n (buffer k)) (f .2 .end ∙ sym (file-size es)) ∙ file .1 in
     p .append .ensures (file .0) es (f .2 .count) end
-    ∙ sym (accepted-held (callOf e) (buffer k) es (f .1) none-is ∙ ap (λ l. lentFile l (buffer k)) (list-of es e))
+    ∙ sym (accepted-held (callOf e) (buffer k) es (f .1) none-is ∙ ap (λ l. lentFile l (buffer k)) (entry-added es e))
 
 pub add-spec : {M : Type 1} → statement M
 add-spec =

@@ -18,7 +18,7 @@ use Rattle.record.proofs.Replays.{StandsAt, none-stand, heldTo, held-ended, hel
 use Rattle.listing.specs.Listings.{listedAfter, listing}
 use Rattle.laws.specs.Puts.{Put, put-none, put-as, put-length, put-then}
 use Rattle.listing.proofs.Sizes.{listing-most}
-use Rattle.listing.proofs.Slots.{passed, readable, lines-within, lines-more, balance-is, stands-more}
+use Rattle.listing.proofs.Slots.{passed, readable, lines-within, lines-more, stands-is, stands-more}
 use Rattle.listing.proofs.put_listing.Statement.{statement}
 use Rattle.listing.proofs.put_listing.Tie as tie
 
@@ -134,7 +134,7 @@ loop-again-2 c =
     let t = a .before .before in
     let m = here t in
     let says = rw (t .before .next .given .1) at (t .before .before .before .judge .ensures) in
-    let comes-to = a .answer .ensures _ (balance-is (from t .slots) (m .loop .i) (m .loop .n) _ (m .loop .standing) (in-slots t) (m .loop .inv .2) (says .0) (next t) (says .1) (says .2)) in
+    let comes-to = a .answer .ensures _ (stands-is (from t .slots) (m .loop .i) (m .loop .n) _ (m .loop .standing) (in-slots t) (m .loop .inv .2) (says .0) (next t) (says .1) (says .2)) in
     let lines = put-then _ _ _ _ _ (m .loop .inv .3) _ _ _ (inside m) (p .put-lines .ensures) in
     let more = lines-more (from t .slots) (m .loop .i) (m .loop .n) _ (m .loop .standing) (in-slots t) (m .loop .inv .2) (says .0) (a .answer .result) comes-to in (
       omega (arith, in-slots t, all-slots (start m)),
