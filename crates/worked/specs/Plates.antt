@@ -81,6 +81,26 @@ gramMore = entry.Paired astirPair ∷ entry.Sheet (astirSheet (minus 47500)) ∷
 abbrev pub equals : List Entry
 equals = entry.Paired (pairOf astir 288000 0) ∷ entry.Sheet (astirSheet (minus 47500)) ∷ []
 
+-- G and J with a seat behind the sheet, and J's glider weighed behind both; G's seat ended by a sheet
+abbrev pub seat : ℤ → ℤ → Entry
+seat lower higher = entry.Seat (record { lower = lower; higher = higher })
+
+abbrev pub G-between : ℤ → ℤ → List Entry
+G-between lower higher = entry.Weighing astir ∷ entry.Sheet (astirSheet (minus 47500)) ∷ seat lower higher ∷ []
+
+abbrev pub J-between : ℤ → ℤ → List Entry
+J-between lower higher = entry.Weighing blanik ∷ entry.Sheet blanikSheet ∷ seat lower higher ∷ []
+
+abbrev pub J-weighed : ℤ → ℤ → List Entry
+J-weighed lower higher = entry.Sheet blanikSheet ∷ seat lower higher ∷ entry.Weighing blanik ∷ []
+
+abbrev pub G-ended : ℤ → ℤ → List Entry
+G-ended lower higher =
+    entry.Weighing astir ∷
+    entry.Sheet (astirSheet (minus 47500)) ∷
+    seat lower higher ∷
+    entry.Sheet (astirSheet (minus 47500)) ∷ []
+
 -- two lists beside the paper's, with loads that are no whole kilograms: the Astir with the front load in quarters of a kilogram
 abbrev pub quarters : List Entry
 quarters =

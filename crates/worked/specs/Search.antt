@@ -1,6 +1,6 @@
 -- A row by a shorter search than its definition's, so that it can be computed: only multiples of the front step are tried, each
--- with none of the water and with all of it, which decide (`both-ends`). It is the same row, and the placard of such rows is the
--- same placard. Assumes nothing.
+-- with none of the water and with all of it, which decide (`both-ends`), and each line at its own end of the seat. It is the same
+-- row, and the placard of such rows is the same placard. Assumes nothing.
 use mathlib.Core.Path.{_≡_, refl, sym, ap, _∙_, fun-ext}
 use mathlib.Core.Bool.{Bool, true, cond, _&&_, true≢false}
 use mathlib.Core.List.{List, map}
@@ -13,18 +13,22 @@ use lib.Ieee.Nearest.{div-mono}
 use borrow.Author.Tests.{eqb-true}
 use Rattle.laws.specs.Tests.{isnt, left}
 use Rattle.paper.specs.declared.Sheet.{Sheet}
+use Rattle.paper.specs.declared.Seat.{Seat}
 use Rattle.paper.specs.declared.Row.{Row}
 use Rattle.paper.specs.declared.Row.the-variants.{Range, Blank}
 use Rattle.paper.specs.declared.Placard.{Placard}
 use Rattle.paper.specs.Units.{halfGrams}
-use Rattle.paper.specs.Record.{Balance, with}
-use Rattle.paper.specs.Rows.{laden, atMost, lines, all, keepsAt, isStep, keeps, smallest, largest, rowOf, row, joined, loads, rowCount}
+use Rattle.paper.specs.Record.{Balance, endsOf, with}
+use Rattle.paper.specs.Rows.{laden, atMost, isStep, good, smallest, largest, rowOf, row, joined, loads, rowCount}
 use Rattle.paper.specs.Placard.{line, text, textLength, blankOf, blankCount}
 use Rattle.paper.specs.Answers.{over, placardGiven, placardRefused, placardBy}
 use Rattle.planes.proofs.Searches.{Outcome, a-range, a-blank, outcome, row-of-ends, row-of-none}
-use Rattle.planes.proofs.Lines.{planesOf, keeps-planes}
+use Rattle.planes.specs.Plane.{keptAt}
+use Rattle.planes.proofs.Lines.{dryLine, wetLine, nlpLine, fwdLine, aftLine}
+use Rattle.planes.proofs.Arms.{last, kept-is}
+use Rattle.planes.proofs.HalfPlanes.{planesOf, keeps-planes}
 use Rattle.planes.proofs.Convex.{both-ends}
-use Rattle.planes.proofs.Rows.{keeps-is, is-step, limits-of}
+use Rattle.planes.proofs.Rows.{good-is, is-step, limits-of}
 
 -- ---- multiples of f only
 
@@ -65,71 +69,83 @@ by-steps q n f h = by (outcome (λ (k : ℕ). q (k * f)) (n / f))
 
 -- ---- the row
 
+-- every line holds with v aboard: FWD's at the lower end, the safe aft limit's at the last arm, which decide (`kept-is`)
+unfoldable pub keptBy : Sheet → Seat → Balance → ℕ → ℕ → ℕ → Bool
+unfolding laden with atMost halfGrams
+keptBy s f b r p v =
+    leb 1 p && (dryLine s (f .lower) b r p v && (wetLine s (f .lower) b r p v && (nlpLine s (f .lower) b r p v && (fwdLine s (f .lower) b r p v && (aftLine s (last f) b r p v && true)))))
+
+pub kept-by : (s : Sheet) (f : Seat) (b : Balance) (r p v : ℕ) → keptAt s f b r p v ≡ keptBy s f b r p v
+unfolding keptBy
+kept-by s f b r p v = kept-is s f b r p v
+
 -- a front load is a step, and every line holds with none of the water and with all of it
-keepsBoth : Sheet → Balance → ℕ → ℕ → ℕ → Bool
-unfolding isStep keepsAt all lines laden with atMost halfGrams
-keepsBoth s b r w p = isStep s p && (keepsAt s b r p 0 && keepsAt s b r p w)
+keepsBoth : Sheet → Seat → Balance → ℕ → ℕ → ℕ → Bool
+unfolding isStep keptBy
+keepsBoth s f b r w p = isStep s p && (keptBy s f b r p 0 && keptBy s f b r p w)
 
-unfoldable pub rowBy : Sheet → Balance → ℕ → ℕ → Row
+unfoldable pub rowBy : Sheet → Seat → Balance → ℕ → ℕ → Row
 unfolding keepsBoth rowOf smallest largest
-rowBy s b r w =
-    times (s .front .step) (rowOf (λ (k : ℕ). keepsBoth s b r w (k * s .front .step)) (s .front .most / s .front .step))
+rowBy s f b r w =
+    times (s .front .step) (rowOf (λ (k : ℕ). keepsBoth s f b r w (k * s .front .step)) (s .front .most / s .front .step))
 
-keeps-both : (s : Sheet) (b : Balance) (r w p : ℕ) → keeps s b r w p ≡ keepsBoth s b r w p
+good-both : (s : Sheet) (f : Seat) (b : Balance) (r w p : ℕ) → good s f b r w p ≡ keepsBoth s f b r w p
 unfolding keepsBoth
-keeps-both s b r w p =
-    keeps-is s b r w p
-    ∙ ap (λ (x : Bool). isStep s p && x) (both-ends (keepsAt s b r) (planesOf s b r) (keeps-planes s b r) p w)
+good-both s f b r w p =
+    good-is s f b r w p
+    ∙ ap (λ (x : Bool). isStep s p && x) (both-ends (keptAt s f b r) (planesOf s f b r) (keeps-planes s f b r) p w)
+    ∙ rw (kept-by s f b r p 0, kept-by s f b r p w)
 
-step-multiple : (s : Sheet) (b : Balance) (r w p : ℕ) → keeps s b r w p ≡ true → p % s .front .step ≡ 0
+step-multiple : (s : Sheet) (f : Seat) (b : Balance) (r w p : ℕ) → good s f b r w p ≡ true → p % s .front .step ≡ 0
 unfolding isStep
-step-multiple s b r w p e =
+step-multiple s f b r w p e =
     let t = eqb (p % s .front .step) 0 in
     eqb-true (p % s .front .step) 0
-    (left t (leb (s .least) p) (left (t && leb (s .least) p) (leb p (s .front .most)) (is-step (limits-of s b r w) p e)))
+    (left t (leb (s .least) p) (left (t && leb (s .least) p) (leb p (s .front .most)) (is-step (limits-of s f b r w) p e)))
 
-pub row-is : (s : Sheet) (b : Balance) → row s b ≡ rowBy s b
+pub row-is : (s : Sheet) (f : Seat) (b : Balance) → row s f b ≡ rowBy s f b
 unfolding row rowBy
-row-is s b =
+row-is s f b =
     fun-ext (λ r.
     fun-ext (λ w.
-    by-steps (keeps s b r w) (s .front .most) (s .front .step) (step-multiple s b r w)
+    by-steps (good s f b r w) (s .front .most) (s .front .step) (step-multiple s f b r w)
     ∙ ap
     (λ (q : ℕ → Bool). times (s .front .step) (rowOf (λ (k : ℕ). q (k * s .front .step)) (s .front .most / s .front .step)))
-    (fun-ext (λ p. keeps-both s b r w p))))
+    (fun-ext (λ p. good-both s f b r w p))))
 
--- ---- the placard, where f gives the row of a rear load and water
+-- ---- the placard, where g gives the row of a rear load and water
 
 abbrev pub textBy : (ℕ → ℕ → Row) → Sheet → List ℕ
-textBy f s = joined (map (λ (x : ℕ × ℕ). line (x .0) (x .1) (f (x .0) (x .1))) (loads s))
+textBy g s = joined (map (λ (x : ℕ × ℕ). line (x .0) (x .1) (g (x .0) (x .1))) (loads s))
 
 abbrev givenBy : (ℕ → ℕ → Row) → Sheet → List ℕ → Placard × List ℕ
-givenBy f s buffer = (
+givenBy g s buffer = (
   record {
     number = 0;
     bytes = textLength s;
     rows = rowCount s;
-    blank = blankOf (map (λ (x : ℕ × ℕ). f (x .0) (x .1)) (loads s));
+    blank = blankOf (map (λ (x : ℕ × ℕ). g (x .0) (x .1)) (loads s));
   },
-  over (textBy f s) buffer,
+  over (textBy g s) buffer,
 )
 
-pub text-is : (s : Sheet) (b : Balance) → text s b ≡ textBy (rowBy s b) s
+pub text-is : (s : Sheet) (f : Seat) (b : Balance) → text s f b ≡ textBy (rowBy s f b) s
 unfolding text
-text-is s b = ap (λ (f : ℕ → ℕ → Row). textBy f s) (row-is s b)
+text-is s f b = ap (λ (g : ℕ → ℕ → Row). textBy g s) (row-is s f b)
 
-given-is : (s : Sheet) (b : Balance) (buffer : List ℕ) → placardGiven s b buffer ≡ givenBy (rowBy s b) s buffer
+given-is : (s : Sheet) (f : Seat) (b : Balance) (buffer : List ℕ) → placardGiven s f b buffer ≡ givenBy (rowBy s f b) s buffer
 unfolding placardGiven text blankCount
-given-is s b buffer = ap (λ (f : ℕ → ℕ → Row). givenBy f s buffer) (row-is s b)
+given-is s f b buffer = ap (λ (g : ℕ → ℕ → Row). givenBy g s buffer) (row-is s f b)
 
 -- `placardBy` with the shorter search
-abbrev pub answerBy : ℕ → Option Sheet → Option Balance → List ℕ → Placard × List ℕ
-answerBy n none o buffer = placardRefused n buffer
-answerBy n (some s) none buffer = placardRefused n buffer
-answerBy n (some s) (some b) buffer = cond (eqb n 0) (givenBy (rowBy s b) s buffer) (placardRefused n buffer)
+abbrev pub answerBy : ℕ → Option Sheet → Option Seat → Option Balance → List ℕ → Placard × List ℕ
+answerBy n none f o buffer = placardRefused n buffer
+answerBy n (some s) f none buffer = placardRefused n buffer
+answerBy n (some s) f (some b) buffer =
+    cond (eqb n 0) (givenBy (rowBy s (endsOf s f) b) s buffer) (placardRefused n buffer)
 
-pub answer-is : (n : ℕ) (o : Option Sheet) (q : Option Balance) (buffer : List ℕ) → placardBy n o q buffer ≡ answerBy n o q buffer
-answer-is n none q buffer = refl
-answer-is n (some s) none buffer = refl
-answer-is n (some s) (some b) buffer =
-    ap (λ (x : Placard × List ℕ). cond (eqb n 0) x (placardRefused n buffer)) (given-is s b buffer)
+pub answer-is : (n : ℕ) (o : Option Sheet) (f : Option Seat) (q : Option Balance) (buffer : List ℕ) → placardBy n o f q buffer ≡ answerBy n o f q buffer
+answer-is n none f q buffer = refl
+answer-is n (some s) f none buffer = refl
+answer-is n (some s) f (some b) buffer =
+    ap (λ (x : Placard × List ℕ). cond (eqb n 0) x (placardRefused n buffer)) (given-is s (endsOf s f) b buffer)

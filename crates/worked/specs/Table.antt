@@ -16,24 +16,26 @@ use Rattle.laws.specs.Equal.{eqZ, same-Z, eqList, same-list}
 use Rattle.laws.specs.Lists.{Each}
 use Rattle.paper.specs.declared.Weighing.{Weighing}
 use Rattle.paper.specs.declared.Sheet.{Sheet}
+use Rattle.paper.specs.declared.Seat.{Seat}
 use Rattle.paper.specs.declared.Row.{Row}
 use Rattle.paper.specs.declared.Row.the-variants.{Range, Blank}
 use Rattle.paper.specs.declared.Entry.{Entry}
 use Rattle.paper.specs.declared.Entry.the-variants as entry
 use Rattle.paper.specs.declared.Placard.{Placard}
 use Rattle.paper.specs.Units.{isWeight, isArm, halfGrams}
-use Rattle.paper.specs.Record.{Balance, totalOf, momentOf, alike, weighed, with, changed, changedBy, changesOf, lastWeighing, balanceOf, centreOf, sheetOf, isNone}
-use Rattle.paper.specs.Rows.{laden, atMost, lines, all, keepsAt, row, below, loadsOf, joined, loads, rowCount}
+use Rattle.paper.specs.Record.{Balance, totalOf, momentOf, alike, weighed, with, changed, changedBy, changesOf, lastWeighing, balanceOf, centreOf, sheetOf, isNone, sheetStands, seatOf, endsOf}
+use Rattle.paper.specs.Rows.{everyArm, keepsAt, row, below, loadsOf, joined, loads, rowCount}
 use Rattle.paper.specs.Placard.{feed, digits, kilograms, ends, line, text, textLength, blankOf}
 use Rattle.paper.specs.File.{bytesOf, fieldBytes, layoutOf, fieldsBytes, entryBytes, bodyAs, fileAs, fileBytes}
-use Rattle.paper.specs.Refusals.{firstNumber, full, isTotal, isNonLifting, badReading, badDistance, badPart, weighingFaults, weighingNumber, badArms, badRanges, badRows, sheetFaults, sheetNumber, afterwards, isChange, badChange, changeFaults, changeNumber}
+use Rattle.paper.specs.Refusals.{firstNumber, full, isTotal, isNonLifting, badReading, badDistance, badPart, weighingFaults, weighingNumber, badArms, badRanges, badRows, sheetFaults, sheetNumber, afterwards, isChange, badChange, changeFaults, changeNumber, badEnds, seatFaults, seatNumber}
 use Rattle.paper.specs.Refusals.{placardTooLong, placardNumber, entryNumber, acceptedAfter, accepted}
 use Rattle.paper.specs.Answers.{over, placardRefused, placardAnswer}
-use Rattle.planes.proofs.Lines.{planesOf, keeps-planes}
+use Rattle.planes.specs.Plane.{keptAt}
+use Rattle.planes.proofs.HalfPlanes.{planesOf, keeps-planes}
 use Rattle.planes.proofs.Convex.{convex}
-use Rattle.worked.specs.Plates.{minus, weighing, blanik, G, H, I, J, gramMore, equals, quarters, grams}
+use Rattle.worked.specs.Plates.{minus, weighing, blanik, G, H, I, J, gramMore, equals, G-between, J-between, J-weighed, G-ended, quarters, grams}
 use Rattle.worked.specs.Equal.{eqRow, same-row, Line, eqLine, same-line, eqAnswer, same-answer}
-use Rattle.worked.specs.Search.{rowBy, row-is, textBy, text-is, answerBy, answer-is}
+use Rattle.worked.specs.Search.{keptBy, kept-by, rowBy, row-is, textBy, text-is, answerBy, answer-is}
 
 -- ---- the table
 
@@ -70,6 +72,13 @@ G-rows =
     (0, 0, Range 71000 92000) ∷
     (0, 50000, Range 71000 92000) ∷
     (0, 100000, Blank) ∷ []
+
+-- J's with a seat from -126,000 to -120,000
+abbrev J-between-rows : List Line
+J-between-rows =
+    (0, 0, Range 70000 110000) ∷
+    (55000, 0, Range 55000 107000) ∷
+    (110000, 0, Range 40000 80000) ∷ []
 
 -- J's placard
 abbrev J-lines : List String
@@ -121,6 +130,14 @@ table =
     (0, 100000, Blank) ∷ []
     ) ∷
     rows equals G-rows ∷
+    -- seats: equal ends at the sheet's arm are G; J has its smallest loads by the higher end and its largest by the lower one, also
+    -- where the glider is weighed behind the seat; each end of the next seat alone leaves 55 to 59 kg, or 82 to 92, and no load is
+    -- good for both; a sheet ends the seat, though it is equal
+    rows (G-between (minus 47500) (minus 47500)) G-rows ∷
+    rows (J-between (minus 126000) (minus 120000)) J-between-rows ∷
+    rows (J-weighed (minus 126000) (minus 120000)) J-between-rows ∷
+    rows (G-between (minus 160000) (minus 35000)) ((0, 0, Blank) ∷ (0, 50000, Blank) ∷ (0, 100000, Blank) ∷ []) ∷
+    rows (G-ended (minus 160000) (minus 35000)) G-rows ∷
     -- J into a buffer with two bytes more, of exactly its length, and with one too few
     places J (replicate 110 7) (record { number = 0; bytes = 108; rows = 3; blank = 0 }) (printed J-lines ++ 7 ∷ 7 ∷ []) ∷
     places J (replicate 108 7) (record { number = 0; bytes = 108; rows = 3; blank = 0 }) (printed J-lines) ∷
@@ -157,13 +174,13 @@ table =
 
 -- ---- what a case says
 
--- a list has a sheet in force and a balance, of which this holds
-abbrev pub Has : List Entry → (Sheet → Balance → Type 0) → Type 0
-Has es P = (s : Sheet) × (b : Balance) × (sheetOf es ≡ some s) × (balanceOf es ≡ some b) × P s b
+-- a list has a sheet in force and a balance, of which and of the seat's ends this holds
+abbrev pub Has : List Entry → (Sheet → Seat → Balance → Type 0) → Type 0
+Has es P = (s : Sheet) × (b : Balance) × (sheetOf es ≡ some s) × (balanceOf es ≡ some b) × P s (endsOf s (seatOf es)) b
 
--- the lines of a sheet's placard, where f gives the row of a rear load and water
+-- the lines of a sheet's placard, where g gives the row of a rear load and water
 abbrev pub linesBy : (ℕ → ℕ → Row) → Sheet → List Line
-linesBy f s = map (λ (x : ℕ × ℕ). (x .0, x .1, f (x .0) (x .1))) (loads s)
+linesBy g s = map (λ (x : ℕ × ℕ). (x .0, x .1, g (x .0) (x .1))) (loads s)
 
 -- the entries that a case is about
 abbrev pub entriesOf : Case → List Entry
@@ -176,16 +193,19 @@ entriesOf (prints es ls) = es
 entriesOf (files es xs) = es
 entriesOf (places es buffer a left) = es
 
--- what they give; the exact minimum, whatever the front step: no load up to the lower one keeps the limits, and the upper one
--- does
+-- the first number that passes a test lies behind lo and is hi at most
+abbrev pub BeginsBetween : (ℕ → Bool) → ℕ → ℕ → Type 0
+BeginsBetween q lo hi = ((p : ℕ) → p ≤ lo → q p ≡ false) × (q hi ≡ true)
+
+-- what they give; the exact minimum, whatever the front step, is of the loads that keep the limits at every arm of the seat
 abbrev pub Gives : Case → Type 0
 Gives (weighs w g m) = (weighed (alike w) .total ≡ g) × (weighed (alike w) .moment ≡ m)
 Gives (centres w c) = centreOf (weighed (alike w)) ≡ c
-Gives (a-row es r w x) = Has es (λ s b. row s b r w ≡ x)
+Gives (a-row es r w x) = Has es (λ s f b. row s f b r w ≡ x)
 Gives (begins es lo hi) =
-    Has es (λ s b. ((p : ℕ) → p ≤ lo → keepsAt s b 0 p 0 ≡ false) × (keepsAt s b 0 hi 0 ≡ true))
-Gives (rows es ls) = Has es (λ s b. linesBy (row s b) s ≡ ls)
-Gives (prints es ls) = Has es (λ s b. text s b ≡ printed ls)
+    Has es (λ s f b. BeginsBetween (λ (p : ℕ). everyArm f (λ (arm : ℤ). keepsAt s arm b 0 p 0)) lo hi)
+Gives (rows es ls) = Has es (λ s f b. linesBy (row s f b) s ≡ ls)
+Gives (prints es ls) = Has es (λ s f b. text s f b ≡ printed ls)
 Gives (files es xs) = fileBytes es ≡ xs
 Gives (places es buffer a left) = placardAnswer es buffer ≡ (a, left)
 
@@ -195,43 +215,54 @@ Says c = (accepted (entriesOf c) ≡ true) × Gives c
 
 -- ---- the test: as the case says, with each row by the shorter search of `rowBy`
 
-abbrev has : Option Sheet → Option Balance → (Sheet → Balance → Bool) → Bool
-has none o t = false
-has (some s) none t = false
-has (some s) (some b) t = t s b
+abbrev has : Option Sheet → Option Seat → Option Balance → (Sheet → Seat → Balance → Bool) → Bool
+has none f o t = false
+has (some s) f none t = false
+has (some s) f (some b) t = t s (endsOf s f) b
 
 gives : Case → Bool
-unfolding totalOf momentOf weighed centreOf sheetOf balanceOf lastWeighing changesOf changedBy changed with halfGrams orElse keepsAt all lines laden atMost rowBy loads loadsOf joined below line kilograms digits ends fileAs bodyAs entryBytes fieldsBytes fieldBytes bytesOf layoutOf placardNumber placardTooLong placardRefused firstNumber isNone textLength rowCount blankOf over
+unfolding totalOf momentOf weighed centreOf sheetOf seatOf sheetStands balanceOf lastWeighing changesOf changedBy changed with halfGrams orElse keptBy rowBy loads loadsOf joined below line kilograms digits ends fileAs bodyAs entryBytes fieldsBytes fieldBytes bytesOf layoutOf placardNumber placardTooLong placardRefused firstNumber isNone textLength rowCount blankOf over
 gives (weighs w g m) = eqZ (weighed (alike w) .total) g && eqZ (weighed (alike w) .moment) m
 gives (centres w c) = eqZ (centreOf (weighed (alike w))) c
-gives (a-row es r w x) = has (sheetOf es) (balanceOf es) (λ s b. eqRow (rowBy s b r w) x)
+gives (a-row es r w x) = has (sheetOf es) (seatOf es) (balanceOf es) (λ s f b. eqRow (rowBy s f b r w) x)
 gives (begins es lo hi) =
-    has (sheetOf es) (balanceOf es) (λ s b. leb lo hi && (not (keepsAt s b 0 lo 0) && keepsAt s b 0 hi 0))
-gives (rows es ls) = has (sheetOf es) (balanceOf es) (λ s b. eqList eqLine (linesBy (rowBy s b) s) ls)
-gives (prints es ls) = has (sheetOf es) (balanceOf es) (λ s b. eqList eqb (textBy (rowBy s b) s) (printed ls))
+    has (sheetOf es) (seatOf es) (balanceOf es) (λ s f b. leb lo hi && (not (keptBy s f b 0 lo 0) && keptBy s f b 0 hi 0))
+gives (rows es ls) = has (sheetOf es) (seatOf es) (balanceOf es) (λ s f b. eqList eqLine (linesBy (rowBy s f b) s) ls)
+gives (prints es ls) =
+    has (sheetOf es) (seatOf es) (balanceOf es) (λ s f b. eqList eqb (textBy (rowBy s f b) s) (printed ls))
 gives (files es xs) = eqList eqb (fileBytes es) xs
 gives (places es buffer a left) =
-    eqAnswer (answerBy (placardNumber es (length buffer)) (sheetOf es) (balanceOf es) buffer) (a, left)
+    eqAnswer (answerBy (placardNumber es (length buffer)) (sheetOf es) (seatOf es) (balanceOf es) buffer) (a, left)
 
 accepts : List Entry → Bool
-unfolding accepted acceptedAfter entryNumber weighingNumber sheetNumber changeNumber weighingFaults sheetFaults changeFaults firstNumber full isNone afterwards isTotal isNonLifting badReading badDistance badPart badArms badRanges badRows isChange badChange rowCount isWeight isArm weighed totalOf momentOf changed with halfGrams balanceOf lastWeighing changesOf changedBy orElse
+unfolding accepted acceptedAfter entryNumber weighingNumber sheetNumber changeNumber seatNumber weighingFaults sheetFaults changeFaults seatFaults badEnds sheetStands sheetOf firstNumber full isNone afterwards isTotal isNonLifting badReading badDistance badPart badArms badRanges badRows isChange badChange rowCount isWeight isArm weighed totalOf momentOf changed with halfGrams balanceOf lastWeighing changesOf changedBy orElse
 accepts es = accepted es
 
 -- ---- what passes is as the case says
 
-has-told : {P : Sheet → Balance → Type 0} (es : List Entry) (t : Sheet → Balance → Bool) → ((s : Sheet) (b : Balance) → t s b ≡ true → P s b) → has (sheetOf es) (balanceOf es) t ≡ true → Has es P
-has-told {P} es t f e = by (sheetOf es) (balanceOf es) refl refl e
+has-told : {P : Sheet → Seat → Balance → Type 0} (es : List Entry) (t : Sheet → Seat → Balance → Bool) → ((s : Sheet) (f : Seat) (b : Balance) → t s f b ≡ true → P s f b) → has (sheetOf es) (seatOf es) (balanceOf es) t ≡ true → Has es P
+has-told {P} es t h e = by (sheetOf es) (balanceOf es) refl refl e
   where
-    by : (o : Option Sheet) (q : Option Balance) → sheetOf es ≡ o → balanceOf es ≡ q → has o q t ≡ true → Has es P
+    by : (o : Option Sheet) (q : Option Balance) → sheetOf es ≡ o → balanceOf es ≡ q → has o (seatOf es) q t ≡ true → Has es P
     by none q x y e = absurd (true≢false (sym e))
     by (some s) none x y e = absurd (true≢false (sym e))
-    by (some s) (some b) x y e = (s, b, x, y, f s b e)
+    by (some s) (some b) x y e = (s, b, x, y, h s (endsOf s (seatOf es)) b e)
 
 -- where one load keeps the limits and a smaller one does not, none before that does
-begins-told : (s : Sheet) (b : Balance) (lo hi : ℕ) → leb lo hi ≡ true → keepsAt s b 0 lo 0 ≡ false → keepsAt s b 0 hi 0 ≡ true → (p : ℕ) → p ≤ lo → keepsAt s b 0 p 0 ≡ false
-begins-told s b lo hi h e k p m =
-    let between = convex (keepsAt s b 0) (planesOf s b 0) (keeps-planes s b 0) 0 p lo hi m (leb-true lo hi h) in
-    isnt (keepsAt s b 0 p 0) (λ t. true≢false (sym (between t k) ∙ e))
+begins-told : (s : Sheet) (f : Seat) (b : Balance) (lo hi : ℕ) → (leb lo hi && (not (keptBy s f b 0 lo 0) && keptBy s f b 0 hi 0)) ≡ true → BeginsBetween (λ (p : ℕ). everyArm f (λ (arm : ℤ). keepsAt s arm b 0 p 0)) lo hi
+unfolding keptAt
+begins-told s f b lo hi t =
+    let k = keptBy s f b 0 lo 0 in
+    let l = keptBy s f b 0 hi 0 in
+    let both = right (leb lo hi) (not k && l) t in
+    let none = kept-by s f b 0 lo 0 ∙ not-true k (left (not k) l both) in
+    let kept = kept-by s f b 0 hi 0 ∙ right (not k) l both in
+    let h = leb-true lo hi (left (leb lo hi) (not k && l) t) in (
+      λ p m.
+          isnt (keptAt s f b 0 p 0)
+          (λ e. true≢false (sym (convex (keptAt s f b 0) (planesOf s f b 0) (keeps-planes s f b 0) 0 p lo hi m h e kept) ∙ none)),
+      kept,
+    )
 
 told : (c : Case) → gives c ≡ true → Gives c
 unfolding gives placardAnswer
@@ -242,26 +273,19 @@ told (weighs w g m) e =
     (same-Z (b .total) g (left t u e), same-Z (b .moment) m (right t u e))
 told (centres w c) e = same-Z (centreOf (weighed (alike w))) c e
 told (a-row es r w x) e =
-    has-told es _ (λ s b t. ap (λ (f : ℕ → ℕ → Row). f r w) (row-is s b) ∙ same-row (rowBy s b r w) x t) e
-told (begins es lo hi) e =
-    has-told es _
-    (λ s b t.
-    let k = keepsAt s b 0 lo 0 in
-    let l = keepsAt s b 0 hi 0 in
-    let both = right (leb lo hi) (not k && l) t in
-    let kept = right (not k) l both in
-    (begins-told s b lo hi (left (leb lo hi) (not k && l) t) (not-true k (left (not k) l both)) kept, kept)) e
+    has-told es _ (λ s f b t. ap (λ (g : ℕ → ℕ → Row). g r w) (row-is s f b) ∙ same-row (rowBy s f b r w) x t) e
+told (begins es lo hi) e = has-told es _ (λ s f b t. begins-told s f b lo hi t) e
 told (rows es ls) e =
     has-told es _
-    (λ s b t.
-    ap (λ (f : ℕ → ℕ → Row). linesBy f s) (row-is s b) ∙ same-list eqLine same-line (linesBy (rowBy s b) s) ls t) e
+    (λ s f b t.
+    ap (λ (g : ℕ → ℕ → Row). linesBy g s) (row-is s f b) ∙ same-list eqLine same-line (linesBy (rowBy s f b) s) ls t) e
 told (prints es ls) e =
-    has-told es _ (λ s b t. text-is s b ∙ same-list eqb eqb-true (textBy (rowBy s b) s) (printed ls) t) e
+    has-told es _ (λ s f b t. text-is s f b ∙ same-list eqb eqb-true (textBy (rowBy s f b) s) (printed ls) t) e
 told (files es xs) e = same-list eqb eqb-true (fileBytes es) xs e
 told (places es buffer a left) e =
     let n = placardNumber es (length buffer) in
-    answer-is n (sheetOf es) (balanceOf es) buffer
-    ∙ same-answer (answerBy n (sheetOf es) (balanceOf es) buffer) (a, left) e
+    answer-is n (sheetOf es) (seatOf es) (balanceOf es) buffer
+    ∙ same-answer (answerBy n (sheetOf es) (seatOf es) (balanceOf es) buffer) (a, left) e
 
 -- ---- the theorem
 
