@@ -8,6 +8,7 @@ use native.Mathlib.Numerals.{add-one}
 use native.Mathlib.Omega.{arith}
 use Rattle.laws.specs.declared.Sides.{Sides}
 use Rattle.paper.specs.declared.Sheet.{Sheet}
+use Rattle.paper.specs.declared.Seat.{Seat}
 use Rattle.paper.specs.Rows.{momentBeside}
 use Rattle.balance.specs.declared.Balance.{Balance}
 use Rattle.balance.specs.Balance.{plain, Bounded}
@@ -26,12 +27,12 @@ pub data Carrying (t : Terms) (b : Balance) (rear : ℕ) : ℕ → Laden → Typ
   row-more : {k : ℕ} {x : Laden} → Carrying t b rear k x
       → (y : Laden) → carried.Post tt (x, (t .share, tt)) y (x, (t .share, tt)) → Carrying t b rear (k + 1) y
 
-module _ (s : Sheet) (t : Terms) (made : terms-of.Post tt (s, tt) t (s, tt)) (b : Balance) (rear : ℕ) where
+module _ (s : Sheet) (f : Seat) (t : Terms) (made : terms-of.Post tt (s, (f, tt)) t (s, (f, tt))) (b : Balance) (rear : ℕ) where
   aboard : {k : ℕ} {x : Laden} → Carrying t b rear k x → Beside s (plain b) rear (k * s .water .step) x
-  aboard (afresh x h) = rw (zero-mul (s .water .step)) (h .1 s (made .arms))
+  aboard (afresh x h) = rw (zero-mul (s .water .step)) (h .1 s (made .1 .arms))
   aboard (row-more {k} c y h) =
       let e : (k + 1) * s .water .step ≡ k * s .water .step + s .water .step = omega (arith, add-mul k 1 (s .water .step), one-mul (s .water .step)) in
-      rw e (h .1 s (plain b) rear (k * s .water .step) (aboard c) (made .water))
+      rw e (h .1 s (plain b) rear (k * s .water .step) (aboard c) (made .1 .water))
 
   pub row-moment : {k : ℕ} {x : Laden} → Carrying t b rear k x → valueOf (x .moment) ≡ momentBeside s (plain b) rear (k * s .water .step)
   row-moment c = aboard c .moment

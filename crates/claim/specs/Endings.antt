@@ -14,12 +14,11 @@ use Rattle.paper.specs.declared.Sheet.{Sheet}
 use Rattle.paper.specs.declared.Change.{Change}
 use Rattle.paper.specs.declared.Entry.{Entry}
 use Rattle.paper.specs.declared.Placard.{Placard}
-use Rattle.paper.specs.Record.{Balance, Readings, weighed, changedBy, lastWeighing, balanceOf, sheetOf, isNone}
+use Rattle.paper.specs.Record.{Balance, Readings, weighed, changedBy, lastWeighing, balanceOf, sheetOf, seatOf, endsOf, isNone, weighingStands, sheetStands}
 use Rattle.paper.specs.Rows.{rowCount}
 use Rattle.paper.specs.Placard.{text, textLength, blankCount}
 use Rattle.paper.specs.Refusals.{firstNumber, placardTooLong, placardNumber}
 use Rattle.paper.specs.Answers.{over, placardAnswer}
-use Rattle.paper.specs.Journal.{weighingStands, sheetStands}
 use Rattle.page.proofs.Answers.{refusal, unweighed, no-sheet, too-short, given}
 
 -- a weighing and a sheet stand, and a buffer of n bytes holds the placard
@@ -29,7 +28,7 @@ stands es n = weighingStands es && sheetStands es && not (placardTooLong (sheetO
 pub data Ending (es : List Entry) (xs : List ℕ) : Type 0 where
   refused : (n : ℕ) → 0 < n → placardNumber es (length xs) ≡ n → stands es (length xs) ≡ false → placardAnswer es xs ≡ (refusal n, xs) → Ending es xs
   printed : (s : Sheet) (b : Balance) → sheetOf es ≡ some s → balanceOf es ≡ some b → stands es (length xs) ≡ true
-      → placardAnswer es xs ≡ (record { number = 0; bytes = textLength s; rows = rowCount s; blank = blankCount s b }, over (text s b) xs) → Ending es xs
+      → placardAnswer es xs ≡ (record { number = 0; bytes = textLength s; rows = rowCount s; blank = blankCount s (endsOf s (seatOf es)) b }, over (text s (endsOf s (seatOf es)) b) xs) → Ending es xs
 
 -- ---- what stands, by the balance and the sheet
 
@@ -87,7 +86,7 @@ ending es xs = by-balance es xs (balanceOf es) refl
 pub record Answered (es : List Entry) (xs : List ℕ) (a : Placard) (ys : List ℕ) : Type 0 where
   pub exactly : eqb (a .number) 0 ≡ stands es (length xs)
   pub else : eqb (a .number) 0 ≡ false → (a ≡ refusal (placardNumber es (length xs))) × (ys ≡ xs)
-  pub whole : (s : Sheet) (b : Balance) → sheetOf es ≡ some s → balanceOf es ≡ some b → a .number ≡ 0 → (a ≡ record { number = 0; bytes = textLength s; rows = rowCount s; blank = blankCount s b }) × (ys ≡ over (text s b) xs)
+  pub whole : (s : Sheet) (b : Balance) → sheetOf es ≡ some s → balanceOf es ≡ some b → a .number ≡ 0 → (a ≡ record { number = 0; bytes = textLength s; rows = rowCount s; blank = blankCount s (endsOf s (seatOf es)) b }) × (ys ≡ over (text s (endsOf s (seatOf es)) b) xs)
 
 pub says : (es : List Entry) (xs : List ℕ) (a : Placard) (ys : List ℕ) → a ≡ placardAnswer es xs .0 → ys ≡ placardAnswer es xs .1 → Answered es xs a ys
 says es xs a ys e f = by (ending es xs)

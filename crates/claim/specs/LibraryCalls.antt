@@ -23,11 +23,12 @@ use Rattle.paper.specs.declared.Weighing.{Weighing}
 use Rattle.paper.specs.declared.Paired.{Paired}
 use Rattle.paper.specs.declared.Sheet.{Sheet}
 use Rattle.paper.specs.declared.Change.{Change}
+use Rattle.paper.specs.declared.Seat.{Seat}
 use Rattle.paper.specs.declared.Placard.{Placard}
 use Rattle.paper.specs.declared.Entry.{Entry}
 use Rattle.paper.specs.Journal as journal
-use Rattle.paper.specs.Journal.{Call, journalBy, numbersBy, weighingStands, sheetStands}
-use Rattle.paper.specs.Record.{sheetOf}
+use Rattle.paper.specs.Journal.{Call, journalBy, numbersBy}
+use Rattle.paper.specs.Record.{sheetOf, weighingStands, sheetStands}
 use Rattle.paper.specs.Rows.{rowCount}
 use Rattle.paper.specs.Placard.{textLength}
 use Rattle.paper.specs.Refusals.{placardTooLong}
@@ -43,6 +44,7 @@ use Rattle.nodhulika.proofs.nodhulika_weigh.Reads as weigh
 use Rattle.nodhulika.proofs.nodhulika_weigh_paired.Reads as pair
 use Rattle.nodhulika.proofs.nodhulika_sheet.Reads as sheet
 use Rattle.nodhulika.proofs.nodhulika_change.Reads as change
+use Rattle.nodhulika.proofs.nodhulika_seat.Reads as seat
 use Rattle.nodhulika.proofs.nodhulika_undo.Reads as undo
 use Rattle.nodhulika.proofs.nodhulika_read.Reads as read
 use Rattle.nodhulika.proofs.nodhulika_placard.Reads as placard
@@ -66,6 +68,9 @@ sheetArgs s =
 abbrev pub changeArgs : Change → ℤ × (ℤ × (ℕ × Unit {0}))
 changeArgs x = (x .c, (x .arm, (x .flag, tt)))
 
+abbrev pub seatArgs : Seat → ℤ × (ℤ × Unit {0})
+seatArgs f = (f .lower, (f .higher, tt))
+
 -- A list of calls as it runs on a buffer of n bytes: the calls in their order, the buffer as the last one left it, the number
 -- that each answered. A fresh record comes first, on any buffer that has room for it; each later call gets the buffer as it was
 -- left. Refused calls are calls like the others.
@@ -79,6 +84,8 @@ pub data Trace : ℕ → List Call → List ℕ → List ℕ → Type 0 where
       → (s : Sheet) (κs : _) (o o′ : RefT (List ℕ)) (k : ℕ) → now o ≡ buffer → sheet.Post κs (o, sheetArgs s) k (o′, sheetArgs s) → Trace n (calls ++ journal.install s ∷ []) (now o′) (answers ++ k ∷ [])
   then-change : {n : ℕ} {calls : List Call} {buffer answers : List ℕ} → Trace n calls buffer answers
       → (x : Change) (κs : _) (o o′ : RefT (List ℕ)) (k : ℕ) → now o ≡ buffer → change.Post κs (o, changeArgs x) k (o′, changeArgs x) → Trace n (calls ++ journal.change x ∷ []) (now o′) (answers ++ k ∷ [])
+  then-seat : {n : ℕ} {calls : List Call} {buffer answers : List ℕ} → Trace n calls buffer answers
+      → (f : Seat) (κs : _) (o o′ : RefT (List ℕ)) (k : ℕ) → now o ≡ buffer → seat.Post κs (o, seatArgs f) k (o′, seatArgs f) → Trace n (calls ++ journal.seat f ∷ []) (now o′) (answers ++ k ∷ [])
   then-undo : {n : ℕ} {calls : List Call} {buffer answers : List ℕ} → Trace n calls buffer answers
       → (κs : _) (o o′ : RefT (List ℕ)) (k : ℕ) → now o ≡ buffer → undo.Post κs (o, tt) k (o′, tt) → Trace n (calls ++ journal.undo ∷ []) (now o′) (answers ++ k ∷ [])
   then-read : {n : ℕ} {calls : List Call} {buffer answers : List ℕ} → Trace n calls buffer answers
@@ -105,7 +112,7 @@ one-more {n} {calls} {buffer} {answers} x k left p f e l =
       numbers = rw (number, f .numbers) (sym (numbers-more (numberIn n) [] calls x));
     }
 
--- a weighing, plain or paired, a sheet, a change or taking back
+-- a weighing, plain or paired, a sheet, a change, a seat or taking back
 called : {n : ℕ} {calls : List Call} {buffer answers : List ℕ} (x : Call) (k : ℕ) (before left : List ℕ) → Follows n calls buffer answers → before ≡ buffer → (k, left) ≡ lentCall x before → Follows n (calls ++ x ∷ []) left (answers ++ k ∷ [])
 called {n} {calls} {buffer} x k before left f b e =
     one-more x k left (lentCall x buffer) f (rw b at e) (call-leaves n (journalIn n calls) buffer (f .holds) x)
@@ -120,6 +127,7 @@ follows (then-weigh t w κs o o′ k b h) = called (journal.weigh w) k (now o) (
 follows (then-pair t x κs o o′ k b h) = called (journal.pair x) k (now o) (now o′) (follows t) b h
 follows (then-sheet t s κs o o′ k b h) = called (journal.install s) k (now o) (now o′) (follows t) b h
 follows (then-change t x κs o o′ k b h) = called (journal.change x) k (now o) (now o′) (follows t) b h
+follows (then-seat t f κs o o′ k b h) = called (journal.seat f) k (now o) (now o′) (follows t) b h
 follows (then-undo t κs o o′ k b h) = called journal.undo k (now o) (now o′) (follows t) b h
 follows (then-read t κs o o′ i i′ k b h) = read-back (now i) k (now o) (now o′) (follows t) b h
 
@@ -210,6 +218,7 @@ after (journal.weigh w) s = lentCall (journal.weigh w) s
 after (journal.pair x) s = lentCall (journal.pair x) s
 after (journal.install t) s = lentCall (journal.install t) s
 after (journal.change x) s = lentCall (journal.change x) s
+after (journal.seat f) s = lentCall (journal.seat f) s
 after journal.undo s = lentCall journal.undo s
 after (journal.read xs) s = lentRead xs s
 
@@ -218,6 +227,7 @@ next {buffer = s} (journal.weigh w) t = then-weigh t w ([], tt) (sliceOf s) (sli
 next {buffer = s} (journal.pair x) t = then-pair t x ([], tt) (sliceOf s) (sliceOf (after (journal.pair x) s .1)) _ refl refl
 next {buffer = s} (journal.install u) t = then-sheet t u ([], tt) (sliceOf s) (sliceOf (after (journal.install u) s .1)) _ refl refl
 next {buffer = s} (journal.change x) t = then-change t x ([], tt) (sliceOf s) (sliceOf (after (journal.change x) s .1)) _ refl refl
+next {buffer = s} (journal.seat f) t = then-seat t f ([], tt) (sliceOf s) (sliceOf (after (journal.seat f) s .1)) _ refl refl
 next {buffer = s} journal.undo t = then-undo t ([], tt) (sliceOf s) (sliceOf (after journal.undo s .1)) _ refl refl
 next {buffer = s} (journal.read xs) t = then-read t ([], ([], tt)) (sliceOf s) (sliceOf (after (journal.read xs) s .1)) (sliceOf xs) (sliceOf xs) _ refl refl
 

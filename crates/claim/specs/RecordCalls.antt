@@ -13,6 +13,7 @@ use Rattle.paper.specs.declared.Weighing.{Weighing}
 use Rattle.paper.specs.declared.Paired.{Paired}
 use Rattle.paper.specs.declared.Sheet.{Sheet}
 use Rattle.paper.specs.declared.Change.{Change}
+use Rattle.paper.specs.declared.Seat.{Seat}
 use Rattle.paper.specs.declared.Placard.{Placard}
 use Rattle.paper.specs.Journal as journal
 use Rattle.paper.specs.Journal.{Call, journal, numbers}
@@ -26,6 +27,7 @@ use Rattle.record.proofs.Record.weigh.Reads as weigh
 use Rattle.record.proofs.Record.weigh_paired.Reads as pair
 use Rattle.record.proofs.Record.install.Reads as install
 use Rattle.record.proofs.Record.change.Reads as change
+use Rattle.record.proofs.Record.adjust_seat.Reads as seat
 use Rattle.record.proofs.Record.undo.Reads as undo
 use Rattle.file.proofs.read.Reads as read
 use Rattle.plate.proofs.placard.Reads as placard
@@ -44,6 +46,8 @@ pub data Trace : List Call → Record → List ℕ → Type 0 where
       → (s : Sheet) (k : Kept) → install.Post tt (r, (s, tt)) k (r, (s, tt)) → Trace (calls ++ journal.install s ∷ []) (k .log) (answers ++ k .number ∷ [])
   then-change : {calls : List Call} {r : Record} {answers : List ℕ} → Trace calls r answers
       → (x : Change) (k : Kept) → change.Post tt (r, (x, tt)) k (r, (x, tt)) → Trace (calls ++ journal.change x ∷ []) (k .log) (answers ++ k .number ∷ [])
+  then-seat : {calls : List Call} {r : Record} {answers : List ℕ} → Trace calls r answers
+      → (f : Seat) (k : Kept) → seat.Post tt (r, (f, tt)) k (r, (f, tt)) → Trace (calls ++ journal.seat f ∷ []) (k .log) (answers ++ k .number ∷ [])
   then-undo : {calls : List Call} {r : Record} {answers : List ℕ} → Trace calls r answers
       → (k : Kept) → undo.Post tt (r, tt) k (r, tt) → Trace (calls ++ journal.undo ∷ []) (k .log) (answers ++ k .number ∷ [])
   then-read : {calls : List Call} {r : Record} {answers : List ℕ} → Trace calls r answers
@@ -55,6 +59,7 @@ follows (then-weigh t w k h) = one-more (journal.weigh w) k (follows t) h
 follows (then-pair t x k h) = one-more (journal.pair x) k (follows t) h
 follows (then-install t s k h) = one-more (journal.install s) k (follows t) h
 follows (then-change t x k h) = one-more (journal.change x) k (follows t) h
+follows (then-seat t f k h) = one-more (journal.seat f) k (follows t) h
 follows (then-undo t k h) = one-more journal.undo k (follows t) h
 follows (then-read t κs i i′ k h) = one-more (journal.read (now i)) k (follows t) h
 
@@ -89,6 +94,7 @@ next (journal.weigh w) t = then-weigh t w (answered _ (journal.weigh w)) refl
 next (journal.pair x) t = then-pair t x (answered _ (journal.pair x)) refl
 next (journal.install s) t = then-install t s (answered _ (journal.install s)) refl
 next (journal.change x) t = then-change t x (answered _ (journal.change x)) refl
+next (journal.seat f) t = then-seat t f (answered _ (journal.seat f)) refl
 next journal.undo t = then-undo t (answered _ journal.undo) refl
 next (journal.read xs) t = then-read t ([], tt) (sliceOf xs) (sliceOf xs) (answered _ (journal.read xs)) refl
 
