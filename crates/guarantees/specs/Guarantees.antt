@@ -6,10 +6,12 @@
 -- the words mean is in crates/paper/specs, and for the logbook and the library in crates/language/specs, crates/book/specs,
 -- crates/front/specs and crates/lent/specs; docs/ARCHITECTURE.md leads from the paper to each of them. Assumes nothing.
 use mathlib.Core.Path.{_≡_}
-use mathlib.Core.Bool.{true}
+use mathlib.Core.Bool.{Bool, true, not, _&&_}
 use mathlib.Core.List.{List}
 use Prim.Native.Nat.{ℕ, _*_, _≤_, _<_}
+use lib.IntN.{ℤ}
 use lib.ListN.{length, getD, set, take}
+use lib.Signed.{leZ}
 use denote.Ref.{RefT, now}
 use Rattle.laws.specs.Lists.{Each}
 use Rattle.laws.specs.Splits.{split}
@@ -17,8 +19,11 @@ use Rattle.paper.specs.declared.Entry.{Entry}
 use Rattle.paper.specs.declared.Placard.{Placard}
 use Rattle.paper.specs.declared.Row.the-variants.{Range}
 use Rattle.paper.specs.declared.Sheet.{Sheet}
+use Rattle.paper.specs.declared.Seat.{Seat}
 use Rattle.paper.specs.declared.Written.{Written}
-use Rattle.paper.specs.Rows.{momentBeside}
+use Rattle.paper.specs.Units.{between}
+use Rattle.paper.specs.Record.{Balance as Plain}
+use Rattle.paper.specs.Rows.{momentBeside, everyArm, someArm, keepsAt}
 use Rattle.paper.specs.Placard.{feed}
 use Rattle.paper.specs.File.{fileAs, fileBytes}
 use Rattle.paper.specs.Refusals.{accepted}
@@ -27,6 +32,8 @@ use Rattle.paper.specs.Journal.{Call, journal, numbers}
 use Rattle.format.specs.Files.{Allows}
 use Rattle.balance.specs.declared.Balance.{Balance}
 use Rattle.balance.specs.Balance.{plain, Bounded}
+use Rattle.planes.specs.Plane.{keptAt}
+use Rattle.planes.proofs.Arms as arms
 use Rattle.aboard.specs.declared.Laden.{Laden}
 use Rattle.aboard.specs.Aboard.{ArmsIn, valueOf}
 use Rattle.group.specs.declared.Terms.{Terms}
@@ -77,7 +84,7 @@ every-list-runs = on-record.every-list-runs
 
 -- No range that is read off such a placard, of a record or of the library to link, begins at 0, whatever the sheet's least load.
 pub none-from-nought : {numbers : List ℕ} {es : List Entry} {answers lent : List ℕ} {a : Placard} {left : List ℕ} → Demand3 numbers es answers lent a left
-    → EachReading es a left (λ s b r w rear water x. (lo hi : ℕ) → x ≡ Range lo hi → 1 ≤ lo)
+    → EachReading es a left (λ s f b r w rear water x. (lo hi : ℕ) → x ≡ Range lo hi → 1 ≤ lo)
 none-from-nought = claim.none-from-nought
 
 -- A list of calls leaves the record of its journal, whatever was refused on the way.
@@ -89,13 +96,27 @@ journal-record = records.journal-record
 -- The moment carried down the page to the k-th row beside a rear load, the first being the 0th, is M with that rear load and all
 -- of the row's water at their arms. It starts afresh with the rear load (`aboard::beside`) and goes on by the share of a step of
 -- water (`aboard::carried`).
-pub moment-carried : (s : Sheet) (t : Terms) → terms-of.Post tt (s, tt) t (s, tt) → (b : Balance) (rear : ℕ) {k : ℕ} {x : Laden} → Carrying t b rear k x
+pub moment-carried : (s : Sheet) (f : Seat) (t : Terms) → terms-of.Post tt (s, (f, tt)) t (s, (f, tt)) → (b : Balance) (rear : ℕ) {k : ℕ} {x : Laden} → Carrying t b rear k x
     → valueOf (x .moment) ≡ momentBeside s (plain b) rear (k * s .water .step)
 moment-carried = row-moment
 
 -- It is about something: within the bounds that accepted sheets and lists keep to, something is carried to every row.
 pub something-carried : (t : Terms) (b : Balance) (rear : ℕ) → ArmsIn (t .arms) → Bounded 1024 b → rear ≤ 500000 → (k : ℕ) → (x : Laden) × Carrying t b rear k x
 something-carried = every-row-carried
+
+-- The arms that demand 3 speaks of are the whole numbers between the two ends of the seat, both included, and some such arm passes
+-- a test where not every one fails it.
+pub every-arm-between : (f : Seat) → leZ (f .lower) (f .higher) ≡ true → (q : ℤ → Bool)
+    → (everyArm f q ≡ true → (arm : ℤ) → between (f .lower) (f .higher) arm ≡ true → q arm ≡ true) × (((arm : ℤ) → between (f .lower) (f .higher) arm ≡ true → q arm ≡ true) → everyArm f q ≡ true)
+every-arm-between = arms.every-between
+
+pub some-arm : (f : Seat) (q : ℤ → Bool) → someArm f q ≡ not (everyArm f (λ (arm : ℤ). not (q arm)))
+some-arm = arms.some-not-every
+
+-- The two ends decide: a load keeps every limit with v aboard at every arm where it does at both, for every sheet and balance.
+pub ends-decide : (s : Sheet) (f : Seat) (b : Plain) (r p v : ℕ) → leZ (f .lower) (f .higher) ≡ true → everyArm f (λ (arm : ℤ). keepsAt s arm b r p v) ≡ (keepsAt s (f .lower) b r p v && keepsAt s (f .higher) b r p v)
+unfolding keptAt
+ends-decide = arms.ends-decide
 
 -- ---- files
 
@@ -127,7 +148,7 @@ pub read-then-written-again : (q : Record) (κs : _) (i i′ : _) (k : Kept) →
 read-then-written-again = trips.read-then-written
 
 -- Reading accepts the files of the lists that accepted calls give, in each version that has their kinds (`Allows`: version 2, and
--- version 1 where there is no paired weighing), and nothing else.
+-- version 1 where there is no paired weighing and no seat), and nothing else.
 pub every-file-accepted : (q : Record) (κs : _) (i i′ : _) (k : Kept) → read.Post κs (q, (i, tt)) k (q, (i′, tt))
     → (v : ℕ) (es : List Entry) → Allows v es → accepted es ≡ true → now i ≡ fileAs v es → k ≡ record { number = 0; log = recordOf es }
 every-file-accepted = trips.accepts-files
@@ -167,8 +188,8 @@ library-demand-3 = of-library.demand-3
 pub with-room-the-journal : (n : ℕ) → 3910 ≤ n → (calls : List Call) → (numbersIn n calls ≡ numbers calls) × (journalIn n calls ≡ journal calls)
 with-room-the-journal = room-for-all
 
--- A record may be lent in a file of version 1. A weighing, plain or paired, a sheet, a change or taking back that is refused leaves
--- every byte of its buffer, and one that is accepted leaves the version byte 2 there; so does reading back.
+-- A record may be lent in a file of version 1. A call that adds an entry, or takes one back, and is refused leaves every byte of its
+-- buffer, and one that is accepted leaves the version byte 2 there; so does reading back.
 pub lent-renewed : (x : Call) (s : List ℕ) → (0 < lentCall x s .0 → lentCall x s .1 ≡ s) × (lentCall x s .0 ≡ 0 → getD (lentCall x s .1) 4 0 ≡ 2)
 lent-renewed = call-renewed
 

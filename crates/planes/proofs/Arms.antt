@@ -2,7 +2,7 @@
 -- hardest at the lower end and the safe aft limit's at the higher one, and the other lines do not ask where the load sits.
 -- Assumes nothing.
 use mathlib.Core.Path.{_≡_, sym, ap, _∙_}
-use mathlib.Core.Bool.{Bool, true, false, _&&_}
+use mathlib.Core.Bool.{Bool, true, false, not, _&&_}
 use Prim.Native.Nat.{ℕ, _+_, _*_, _≤_}
 use native.Mathlib.Nat.{mul-le-mul-left}
 use native.Mathlib.Omega.{arith}
@@ -10,15 +10,15 @@ use lib.Dec.{leb}
 use lib.IntN.{ℤ, pos, natAbs, _+ℤ_, _-ℤ_}
 use lib.Signed.{leZ}
 use borrow.Author.Tests.{leb-true, le-leb}
-use Rattle.laws.specs.Tests.{same, both, left, right}
-use Rattle.laws.specs.Z.{Is, up, dn, is-nat, is-int, is-add, is-sub, same as same-number, hyp-leZ, abs-eq, one-side}
+use Rattle.laws.specs.Tests.{same, both, left, right, turned-no}
+use Rattle.laws.specs.Z.{Is, up, dn, is-nat, is-int, is-add, is-sub, same as same-number, hyp-eq, hyp-leZ, goal-leZ, abs-eq, one-side}
 use Rattle.paper.specs.declared.Sheet.{Sheet}
 use Rattle.paper.specs.declared.Seat.{Seat}
 use Rattle.paper.specs.Units.{between}
 use Rattle.paper.specs.Record.{Balance}
 use Rattle.paper.specs.Rows.{travel, everyArm, someArm, keepsAt}
 use Rattle.planes.specs.Plane.{keptAt}
-use Rattle.planes.proofs.Searches.{up-to, up-to-at, none-to}
+use Rattle.planes.proofs.Searches.{up-to, up-to-at, one-not-all}
 use Rattle.planes.proofs.Lines.{Parts, PartsOf, partsOf, parts-of, fwdLow, fwdHigh, aftLow, aftHigh, fwd-line, aft-line, laden-on-total, laden-on-part, dryLine, wetLine, nlpLine, fwdLine, aftLine, Hold, lines-hold, hold-lines}
 
 -- ---- the arms of a seat
@@ -50,9 +50,45 @@ module _ (f : Seat) (q : ℤ → Bool) where
   unfolding everyArm
   at-every-arm e = up-to-at (λ (d : ℕ). q (armAt f d)) (travel f) e
 
-  pub no-arm : ((d : ℕ) → d ≤ travel f → q (armAt f d) ≡ false) → someArm f q ≡ false
-  unfolding someArm
-  no-arm h = none-to (λ (d : ℕ). q (armAt f d)) (travel f) h
+  -- some arm passes where not every one fails
+  pub some-not-every : someArm f q ≡ not (everyArm f (λ (arm : ℤ). not (q arm)))
+  unfolding someArm everyArm
+  some-not-every = one-not-all (λ (d : ℕ). q (armAt f d)) (travel f)
+
+pub no-arm : (f : Seat) (q : ℤ → Bool) → ((d : ℕ) → d ≤ travel f → q (armAt f d) ≡ false) → someArm f q ≡ false
+no-arm f q h =
+    some-not-every f q ∙ ap not (every-arm f (λ (arm : ℤ). not (q arm)) (λ d k. turned-no (q (armAt f d)) (h d k)))
+
+-- ---- which arms these are, where the lower end is not behind the higher one: the whole numbers between the two, both included
+
+module _ (f : Seat) (o : leZ (f .lower) (f .higher) ≡ true) where
+  -- how far an arm between them lies behind the lower end
+  far : ℤ → ℕ
+  far arm = natAbs (arm -ℤ f .lower)
+
+  arm-far : (arm : ℤ) → between (f .lower) (f .higher) arm ≡ true → (armAt f (far arm) ≡ arm) × (far arm ≤ travel f)
+  unfolding far
+  arm-far arm e =
+      let low = hyp-leZ (f .lower) arm (left (leZ (f .lower) arm) (leZ arm (f .higher)) e) in
+      let high = hyp-leZ arm (f .higher) (right (leZ (f .lower) arm) (leZ arm (f .higher)) e) in
+      let d = is-sub (is-int arm) (is-int (f .lower)) in
+      let w = is-sub (is-int (f .higher)) (is-int (f .lower)) in (
+        same-number (is-add (is-int (f .lower)) (is-nat (far arm))) (is-int arm) (omega (arith, d .is, abs-eq (arm -ℤ f .lower), one-side (arm -ℤ f .lower), low)),
+        omega (arith, d .is, w .is, abs-eq (arm -ℤ f .lower), one-side (arm -ℤ f .lower), abs-eq (f .higher -ℤ f .lower), one-side (f .higher -ℤ f .lower), low, high),
+      )
+
+  arm-within : (d : ℕ) → d ≤ travel f → between (f .lower) (f .higher) (armAt f d) ≡ true
+  arm-within d h =
+      let a = is-add (is-int (f .lower)) (is-nat d) in
+      let z = hyp-eq (last-is f o) in
+      let l = is-add (is-int (f .lower)) (is-nat (travel f)) in
+      both (leZ (f .lower) (armAt f d)) (leZ (armAt f d) (f .higher)) (goal-leZ (f .lower) (armAt f d) (omega (arith, a .is))) (goal-leZ (armAt f d) (f .higher) (omega (arith, a .is, l .is, z)))
+
+  pub every-between : (q : ℤ → Bool) → (everyArm f q ≡ true → (arm : ℤ) → between (f .lower) (f .higher) arm ≡ true → q arm ≡ true) × (((arm : ℤ) → between (f .lower) (f .higher) arm ≡ true → q arm ≡ true) → everyArm f q ≡ true)
+  every-between q = (
+    λ e arm b. let d = arm-far arm b in ap q (sym (d .0)) ∙ at-every-arm f q e (far arm) (d .1),
+    λ h. every-arm f q (λ d k. h (armAt f d) (arm-within d k)),
+  )
 
 -- ---- the lines at one arm and at another
 
@@ -153,6 +189,21 @@ module _ (s : Sheet) (f : Seat) (b : Balance) (r p v : ℕ) where
         fwd = fwd-further s f b r p v 0 d (omega arith) (rw (arm-at-none f) (k .fwd));
         aft = aft-nearer s f b r p v d (travel f) h (k .aft);
       }))
+
+  -- the two ends decide
+  pub ends-decide : leZ (f .lower) (f .higher) ≡ true → keptAt s f b r p v ≡ (keepsAt s (f .lower) b r p v && keepsAt s (f .higher) b r p v)
+  ends-decide o =
+      let low = keepsAt s (f .lower) b r p v in
+      let high = keepsAt s (f .higher) b r p v in
+      same (keptAt s f b r p v) (low && high)
+      (λ e.
+      both low high
+      (hold-lines s (f .lower) b r p v (rw (arm-at-none f) at (at-arm e 0 (omega arith))))
+      (hold-lines s (f .higher) b r p v (rw (last-is f o) at (at-arm e (travel f) (omega arith)))))
+      (λ e.
+      let l = lines-hold s (f .lower) b r p v (left low high e) in
+      let h = lines-hold s (f .higher) b r p v (right low high e) in
+      ends-kept (record { seat = l .seat; dry = l .dry; wet = l .wet; nlp = l .nlp; fwd = l .fwd; aft = rw (last-is f o) (h .aft) }))
 
   -- six tests in one
   pub kept-is : keptAt s f b r p v ≡ (leb 1 p && (dryLine s (f .lower) b r p v && (wetLine s (f .lower) b r p v && (nlpLine s (f .lower) b r p v && (fwdLine s (f .lower) b r p v && (aftLine s (last f) b r p v && true))))))

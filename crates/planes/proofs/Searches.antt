@@ -2,7 +2,7 @@
 -- search returns is split into its two outcomes once, and the rest read off them. Assumes nothing.
 use Prim.Native.Nat.{ℕ, zero, suc, _+_, _≤_, _<_}
 use mathlib.Core.Path.{_≡_, refl, sym, _∙_, ap}
-use mathlib.Core.Bool.{Bool, true, false, _&&_, true≢false}
+use mathlib.Core.Bool.{Bool, true, false, not, _&&_, true≢false}
 use mathlib.Core.Logic.{⊎-elim}
 use mathlib.Core.Option.{none, some}
 use native.Mathlib.Nat.{eq-or-lt-of-le}
@@ -34,17 +34,20 @@ up-to-at q (suc n) e v h =
     (λ (z : v < suc n). up-to-at q n (right (q (suc n)) (upTo q n) e′) v (omega arith))
     (eq-or-lt-of-le h)
 
--- ---- none passes
+-- ---- one passes: where not all fail
 
-none-by : (q : ℕ → Bool) (n : ℕ) (b : Bool) → q (suc n) ≡ b → b ≡ false → oneTo q n ≡ false → oneTo q (suc n) ≡ false
-unfolding oneTo
-none-by q n true e f h = absurd (clash true refl f)
-none-by q n false e f h = rw (oneTo, e) h
-
-pub none-to : (q : ℕ → Bool) (n : ℕ) → ((v : ℕ) → v ≤ n → q v ≡ false) → oneTo q n ≡ false
-unfolding oneTo
-none-to q zero h = h zero (omega arith)
-none-to q (suc n) h = none-by q n (q (suc n)) refl (h (suc n) (omega arith)) (none-to q n (λ v k. h v (omega arith)))
+pub one-not-all : (q : ℕ → Bool) (n : ℕ) → oneTo q n ≡ not (upTo (λ (v : ℕ). not (q v)) n)
+unfolding oneTo upTo
+one-not-all q zero = by (q zero)
+  where
+    by : (b : Bool) → b ≡ not (not b)
+    by true = refl
+    by false = refl
+one-not-all q (suc n) = by (q (suc n)) refl (one-not-all q n)
+  where
+    by : (b : Bool) → q (suc n) ≡ b → oneTo q n ≡ not (upTo (λ (v : ℕ). not (q v)) n) → oneTo q (suc n) ≡ not (upTo (λ (v : ℕ). not (q v)) (suc n))
+    by true e h = rw (oneTo, upTo, e)
+    by false e h = rw (oneTo, upTo, e) h
 
 -- ---- the smallest, among the n numbers from p on
 
