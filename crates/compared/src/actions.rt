@@ -8,6 +8,7 @@ use nodhulika::nodhulika_check;
 use nodhulika::nodhulika_fresh;
 use nodhulika::nodhulika_placard;
 use nodhulika::nodhulika_read;
+use nodhulika::nodhulika_seat;
 use nodhulika::nodhulika_sheet;
 use nodhulika::nodhulika_undo;
 use nodhulika::nodhulika_weigh;
@@ -144,7 +145,7 @@ fn placard(line: &[u8], buffer: &[u8]) {
     text(b"\n");
 }
 
-// A weighing, plain or paired, a data sheet or a change.
+// A weighing, plain or paired, a data sheet, a change or a seat entry.
 fn enter(buffer: &mut [u8], e: Entry) -> u64 {
     match e {
         Entry::Weighing(w) => nodhulika_weigh(buffer, w.m, w.p, w.q, w.a, w.b, w.n),
@@ -170,6 +171,7 @@ fn enter(buffer: &mut [u8], e: Entry) -> u64 {
         Entry::Paired(x) => {
             nodhulika_weigh_paired(buffer, x.m, x.p, x.q, x.p2, x.q2, x.a, x.b, x.n)
         }
+        Entry::Seat(f) => nodhulika_seat(buffer, f.lower, f.higher),
     }
 }
 
