@@ -27,7 +27,7 @@ use Rattle.paper.proofs.Numbers.{no-first, no-other}
 use Rattle.paper.proofs.Units.{arm-range}
 use Rattle.paper.proofs.Weighings.{Fine, first-fine, second-fine}
 use Rattle.sheet.proofs.Accepted.{accepted-sheet}
-use Rattle.seat.proofs.Ends.{ends-of}
+use Rattle.paper.proofs.Seats.{ends-of}
 use Rattle.format.specs.Rows.{fieldsOf}
 
 -- a value fits a field: what is written of it is no longer than the field, and reads as it

@@ -8,6 +8,7 @@
 use mathlib.Core.Path.{_≡_}
 use mathlib.Core.Bool.{Bool, true, not, _&&_}
 use mathlib.Core.List.{List}
+use mathlib.Core.Option.{some}
 use Prim.Native.Nat.{ℕ, _*_, _≤_, _<_}
 use lib.IntN.{ℤ}
 use lib.ListN.{length, getD, set, take}
@@ -22,13 +23,15 @@ use Rattle.paper.specs.declared.Sheet.{Sheet}
 use Rattle.paper.specs.declared.Seat.{Seat}
 use Rattle.paper.specs.declared.Written.{Written}
 use Rattle.paper.specs.Units.{between}
-use Rattle.paper.specs.Record.{Balance as Plain}
+use Rattle.paper.specs.Record.{Balance as Plain, sheetOf, seatOf, endsOf}
 use Rattle.paper.specs.Rows.{momentBeside, everyArm, someArm, keepsAt}
 use Rattle.paper.specs.Placard.{feed}
 use Rattle.paper.specs.File.{fileAs, fileBytes}
 use Rattle.paper.specs.Refusals.{accepted}
 use Rattle.paper.specs.Answers.{over}
 use Rattle.paper.specs.Journal.{Call, journal, numbers}
+use Rattle.paper.proofs.Seats.{ends-of}
+use Rattle.seat.proofs.Lists.{ends-accepted}
 use Rattle.format.specs.Files.{Allows}
 use Rattle.balance.specs.declared.Balance.{Balance}
 use Rattle.balance.specs.Balance.{plain, Bounded}
@@ -104,12 +107,16 @@ moment-carried = row-moment
 pub something-carried : (t : Terms) (b : Balance) (rear : ℕ) → ArmsIn (t .arms) → Bounded 1024 b → rear ≤ 500000 → (k : ℕ) → (x : Laden) × Carrying t b rear k x
 something-carried = every-row-carried
 
--- The arms that demand 3 speaks of are the whole numbers between the two ends of the seat, both included, and some such arm passes
--- a test where not every one fails it.
+-- The arms that demand 3 speaks of are the whole numbers between the two ends of the seat, both included.
 pub every-arm-between : (f : Seat) → leZ (f .lower) (f .higher) ≡ true → (q : ℤ → Bool)
     → (everyArm f q ≡ true → (arm : ℤ) → between (f .lower) (f .higher) arm ≡ true → q arm ≡ true) × (((arm : ℤ) → between (f .lower) (f .higher) arm ≡ true → q arm ≡ true) → everyArm f q ≡ true)
 every-arm-between = arms.every-between
 
+-- The lower end is never behind the higher one in a list that accepted calls give.
+pub ends-in-order : (es : List Entry) (s : Sheet) → accepted es ≡ true → sheetOf es ≡ some s → leZ (endsOf s (seatOf es) .lower) (endsOf s (seatOf es) .higher) ≡ true
+ends-in-order es s h e = ends-of (endsOf s (seatOf es)) (ends-accepted es s h e) .order
+
+-- Some such arm passes a test where not every one fails it.
 pub some-arm : (f : Seat) (q : ℤ → Bool) → someArm f q ≡ not (everyArm f (λ (arm : ℤ). not (q arm)))
 some-arm = arms.some-not-every
 

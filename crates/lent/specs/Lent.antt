@@ -22,7 +22,7 @@ lentBy none x buffer = (12, buffer)
 lentBy (some es) x buffer =
     cond (eqb (callNumber es x) 0) (lentFile (acceptedCall es x) buffer) (callNumber es x, buffer)
 
--- a weighing, a sheet, a change or taking back
+-- a call that adds an entry, or taking back
 unfoldable pub lentCall : Call → List ℕ → ℕ × List ℕ
 lentCall x buffer = lentBy (heldIn buffer) x buffer
 

@@ -8,7 +8,11 @@ use Rattle.laws.specs.Tests.{left, right}
 use Rattle.laws.specs.Z.{zs}
 use Rattle.paper.specs.Units.{isArm}
 
-pub arm-range : (x : ℤ) → isArm x ≡ true → (negsuc 1999999 ≤ℤ x) × (x ≤ℤ pos 2000000)
+-- an arm's range
+abbrev pub IsArm : ℤ → Type 0
+IsArm x = (negsuc 1999999 ≤ℤ x) × (x ≤ℤ pos 2000000)
+
+pub arm-range : (x : ℤ) → isArm x ≡ true → IsArm x
 unfolding isArm
 arm-range x e =
     let l = left (leZ (negsuc 1999999) x) (leZ x (pos 2000000)) e in

@@ -1,3 +1,2 @@
--- What is in force of a list, and what an accepted list's ends keep to.
-pub mod Ends
+-- What is in force of a list, and that it was accepted.
 pub mod Lists

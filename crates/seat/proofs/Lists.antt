@@ -15,9 +15,9 @@ use Rattle.paper.specs.declared.Entry.the-variants as entry
 use Rattle.paper.specs.Record.{asSheet, sheetOf, asSeat, seatOf, endsOf, isNone, sheetStands}
 use Rattle.paper.specs.Refusals.{firstNumber, full, sheetFaults, badEnds, seatFaults, seatNumber, entryNumber, acceptedAfter, accepted}
 use Rattle.paper.proofs.Numbers.{no-first, no-other}
+use Rattle.paper.proofs.Seats.{fixed-ends}
 use Rattle.sheet.proofs.Lists.{sheet-more, sheet-accepted}
 use Rattle.seat.specs.InForce.{withEnds, inForce, moved, after}
-use Rattle.seat.proofs.Ends.{fixed-ends}
 
 -- ---- one entry more
 

@@ -4,21 +4,15 @@ use mathlib.Core.Bool.{false, and-false}
 use Prim.Native.Nat.{ℕ, _≤_}
 use native.Mathlib.Omega.{arith}
 use lib.Dec.{leb}
-use lib.IntN.{ℤ, pos, negsuc}
-use lib.Signed.{_≤ℤ_}
 use borrow.Author.Tests.{leb-true}
 use Rattle.laws.specs.Tests.{kept, span}
 use Rattle.paper.specs.declared.Sheet.{Sheet}
 use Rattle.paper.specs.Units.{isArm}
 use Rattle.paper.specs.Rows.{rowCount}
 use Rattle.paper.specs.Refusals.{firstNumber, badArms, badRanges, badRows, isStepTo, sheetFaults}
-use Rattle.paper.proofs.Units.{arm-range}
+use Rattle.paper.proofs.Units.{IsArm, arm-range}
 use Rattle.paper.proofs.Numbers.{no-first, no-other}
 use Rattle.sheet.proofs.Laws.{Ranges, ranges}
-
--- an arm's range
-abbrev pub IsArm : ℤ → Type 0
-IsArm x = (negsuc 1999999 ≤ℤ x) × (x ≤ℤ pos 2000000)
 
 pub record Arms (s : Sheet) : Type 0 where
   pub fwd : IsArm (s .fwd)

@@ -13,9 +13,9 @@
 //! with any water aboard, "even where the sheet's least load is 0".
 //!
 //! Card 4, "adjustable seat backs": a seat entry gives two ends that the arm of the
-//! front load lies between. It "overrides the front arm of the sheet before it until
-//! the next sheet or seat entry", and a load is good "only if every limit holds for
-//! every whole arm between the ends, both included".
+//! front load lies between. They count in the place of the sheet's own front arm
+//! until another sheet or seat comes, and a load keeps the limits where it does so at
+//! each whole arm from the one end to the other.
 //!
 //! Readings of the papers, where their words leave room:
 //!
@@ -487,8 +487,7 @@ impl Journal {
         ACCEPTED
     }
 
-    /// Order: "after 9, an entry with no sheet before it is 8; then ends out of range
-    /// or reversed are 2".
+    /// Order: 9; 8 where the list has no sheet; 2 by the ends.
     fn seat_number(&self, seat: &Seat) -> u64 {
         if self.is_full() {
             return FULL;

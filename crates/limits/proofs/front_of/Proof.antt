@@ -5,7 +5,7 @@ use borrow.Author.Needs.{needs}
 use mir.Facts.{toZ-ofZ}
 use Rattle.laws.specs.Z.{rd}
 use Rattle.paper.specs.Units.{isArm}
-use Rattle.seat.proofs.Ends.{ends-arms, ends-of}
+use Rattle.paper.proofs.Seats.{ends-arms, ends-of}
 use Rattle.aboard.specs.Aboard.{LoadOf, Share}
 use Rattle.limits.proofs.front_of.Statement.{statement}
 use Rattle.limits.proofs.front_of.Tie as tie

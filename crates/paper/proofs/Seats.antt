@@ -6,13 +6,12 @@ use lib.IntN.{ℤ}
 use lib.Signed.{leZ}
 use Rattle.laws.specs.Tests.{kept}
 use Rattle.laws.specs.Z.{goal-leZ}
 use Rattle.paper.specs.declared.Sheet.{Sheet}
 use Rattle.paper.specs.declared.Seat.{Seat}
 use Rattle.paper.specs.Units.{isArm}
 use Rattle.paper.specs.Refusals.{firstNumber, badArms, sheetFaults, badEnds}
-use Rattle.paper.proofs.Units.{arm-range}
+use Rattle.paper.proofs.Units.{IsArm, arm-range}
 use Rattle.paper.proofs.Numbers.{no-first}
-use Rattle.sheet.proofs.Accepted.{IsArm}
 
 pub record Ends (f : Seat) : Type 0 where
   pub lower : IsArm (f .lower)
