@@ -35,7 +35,7 @@ pub fn read(s: &[u8]) -> Reading
     let mut log = Record::fresh();
     let mut standing = Standing {
         weighed: Weighed::Never,
-        sheet: false,
+        sheet: 0,
     };
     let mut at = 0;
     let mut line = 0;

@@ -91,7 +91,7 @@ pub fn read(r: Record, s: &[u8]) -> Kept
     let mut log = Record::fresh();
     let mut standing = Standing {
         weighed: Weighed::Never,
-        sheet: false,
+        sheet: 0,
     };
     let mut at = HEADER;
     let mut i = 0;

@@ -1,10 +1,10 @@
 -- What stands in a list as the code carries it, and what a judgement of an entry says.
 use mathlib.Core.Path.{_≡_}
-use mathlib.Core.Bool.{Bool, true, false}
+use mathlib.Core.Bool.{Bool, true, not}
 use mathlib.Core.List.{List, _∷_}
 use mathlib.Core.Option.{Option, none, some, Option·map}
 use Prim.Native.Nat.{ℕ, _<_}
-use lib.Dec.{leb}
+use lib.Dec.{leb, eqb}
 use Rattle.paper.specs.declared.Entry.{Entry}
 use Rattle.paper.specs.declared.Entry.the-variants as entry
 use Rattle.paper.specs.Record as paper
@@ -30,12 +30,15 @@ abbrev pub balanceIn : Weighed → Option paper.Balance
 balanceIn Never = none
 balanceIn (Balance b) = some (plain b)
 
+abbrev pub present : ℕ → Bool
+present n = not (eqb n 0)
+
 abbrev pub plainly : Standing → Stands
-plainly s = record { balance = balanceIn (s .weighed); sheet = s .sheet }
+plainly s = record { balance = balanceIn (s .weighed); sheet = present (s .sheet) }
 
 -- nothing stands
 abbrev pub nothing : Standing
-nothing = record { weighed = Never; sheet = false }
+nothing = record { weighed = Never; sheet = 0 }
 
 abbrev pub SoundBalance : ℕ → Weighed → Type 0
 SoundBalance k Never = Unit {0}

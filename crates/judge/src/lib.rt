@@ -13,7 +13,7 @@ ghost use mathlib.Core.Option.{some, Option·map};
 ghost use Prim.Native.Nat.{ℕ, _+_};
 ghost use Rattle.paper.specs.Record as paper;
 ghost use Rattle.paper.specs.Refusals.{firstNumber, weighingFaults, sheetFaults, changeFaults, seatFaults};
-ghost use Rattle.judge.specs.Standing.{plainly, Sound, numberAt, after, Says};
+ghost use Rattle.judge.specs.Standing.{present, plainly, Sound, numberAt, after, Says};
 
 // No weighing, or the balance of the last one and the changes behind it.
 pub enum Weighed {
@@ -21,10 +21,11 @@ pub enum Weighed {
     Balance(Balance),
 }
 
-// What stands in a list: what was weighed, and whether there is a sheet.
+// What stands in a list: what was weighed, and whether there is a sheet, 1 or 0. A whole word, since a copy of the padding behind
+// a byte takes longer than the rest of an entry.
 pub struct Standing {
     pub weighed: Weighed,
-    pub sheet: bool,
+    pub sheet: u64,
 }
 
 // What an entry gets: its number of refusal, or what stands once it is added.
@@ -34,8 +35,8 @@ pub enum Judged {
 }
 
 // A weighing, behind 9.
-fn judge_weighing(sheet: bool, w: Weighing) -> Judged
-    ensures { λ r. ⌜ ((k : ℕ) → Says (firstNumber (weighingFaults (paper.alike w))) (record { balance = some (paper.weighed (paper.alike w)); sheet = sheet }) (k + 1) r) ⌝ }
+fn judge_weighing(sheet: u64, w: Weighing) -> Judged
+    ensures { λ r. ⌜ ((k : ℕ) → Says (firstNumber (weighingFaults (paper.alike w))) (record { balance = some (paper.weighed (paper.alike w)); sheet = present sheet }) (k + 1) r) ⌝ }
 {
     let n = weighing::number(w);
     if n != 0 {
@@ -46,8 +47,8 @@ fn judge_weighing(sheet: bool, w: Weighing) -> Judged
 }
 
 // A paired weighing, behind 9.
-fn judge_paired(sheet: bool, x: Paired) -> Judged
-    ensures { λ r. ⌜ ((k : ℕ) → Says (firstNumber (weighingFaults (paper.paired x))) (record { balance = some (paper.weighed (paper.paired x)); sheet = sheet }) (k + 1) r) ⌝ }
+fn judge_paired(sheet: u64, x: Paired) -> Judged
+    ensures { λ r. ⌜ ((k : ℕ) → Says (firstNumber (weighingFaults (paper.paired x))) (record { balance = some (paper.weighed (paper.paired x)); sheet = present sheet }) (k + 1) r) ⌝ }
 {
     let n = weighing::paired_number(x);
     if n != 0 {
@@ -68,7 +69,7 @@ fn judge_sheet(standing: Standing, s: Sheet) -> Judged
     let weighed = standing.weighed;
     Judged::Accepted(Standing {
         weighed,
-        sheet: true,
+        sheet: 1,
     })
 }
 
@@ -93,10 +94,10 @@ fn judge_change(standing: Standing, x: Change) -> Judged
 }
 
 // The number of a seat entry, behind 9; `sheet` tells whether a sheet stands.
-fn seat_number(sheet: bool, f: Seat) -> u64
-    ensures { λ n. ⌜ n ≡ firstNumber (seatFaults sheet f) ⌝ }
+fn seat_number(sheet: u64, f: Seat) -> u64
+    ensures { λ n. ⌜ n ≡ firstNumber (seatFaults (present sheet) f) ⌝ }
 {
-    if !sheet {
+    if sheet == 0 {
         return 8;
     }
     if seat::bad_ends(f) {

@@ -90,7 +90,7 @@ fn put_listing(out: &mut [u8], r: Record) -> usize
 {
     let mut standing = Standing {
         weighed: Weighed::Never,
-        sheet: false,
+        sheet: 0,
     };
     let mut n = 0;
     let mut at = 0;

@@ -60,7 +60,7 @@ pub fn replay(r: Record) -> Replayed
     let mut slots = [unused(); CAPACITY];
     let mut standing = Standing {
         weighed: Weighed::Never,
-        sheet: false,
+        sheet: 0,
     };
     let mut n = 0;
     let mut i = 0;

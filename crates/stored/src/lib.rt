@@ -49,7 +49,7 @@ fn survey_entries(s: &[u8], kinds: u8, count: usize) -> Stored
 {
     let mut standing = Standing {
         weighed: Weighed::Never,
-        sheet: false,
+        sheet: 0,
     };
     let mut sheet = InForce::Nothing;
     let mut last = HEADER;

@@ -5,7 +5,7 @@ use mathlib.Core.Option.{some}
 use native.Mathlib.Omega.{arith}
 use Rattle.paper.specs.Record as paper
 use Rattle.balance.specs.Balance.{Bounded}
-use Rattle.judge.specs.Standing.{Stands}
+use Rattle.judge.specs.Standing.{Stands, present}
 use Rattle.judge.proofs.Judging.{grown-by, of-weighed, unweighed}
 use Rattle.judge.proofs.judge_change.Statement.{statement}
 use Rattle.judge.proofs.judge_change.Tie as tie
@@ -45,7 +45,7 @@ returns-3 c k h =
     let r = c .changed .ensures in
     rw e (
       sym (c .before .before .number .ensures) ∙ c .before .if1 .left,
-      ap {B = Stands} (λ (b : paper.Balance). record { balance = some b; sheet = standing .sheet }) (r .0),
+      ap {B = Stands} (λ (b : paper.Balance). record { balance = some b; sheet = present (standing .sheet) }) (r .0),
       grown-by k _ _ t (r .1) (r .2) (r .3),
     )
 

@@ -5,7 +5,7 @@ use mathlib.Core.Option.{some}
 use native.Mathlib.Omega.{arith}
 use Rattle.paper.specs.Record as paper
 use Rattle.judge.specs.declared.Weighed.the-variants as weighed
-use Rattle.judge.specs.Standing.{Stands}
+use Rattle.judge.specs.Standing.{Stands, present}
 use Rattle.judge.proofs.Judging.{grown-balance}
 use Rattle.judge.proofs.judge_paired.Statement.{statement}
 use Rattle.judge.proofs.judge_paired.Tie as tie
@@ -22,7 +22,7 @@ paired-requires c κs = search needs
 returns-2 : tie.Need-returns-2
 returns-2 c k = (
   sym (c .before .before .paired-number .ensures) ∙ c .before .if1 .left,
-  ap {B = Stands} (λ (b : paper.Balance). record { balance = some b; sheet = c .before .before .before .args .sheet }) (c .paired .ensures .0),
+  ap {B = Stands} (λ (b : paper.Balance). record { balance = some b; sheet = present (c .before .before .before .args .sheet) }) (c .paired .ensures .0),
   grown-balance 1 _ (weighed.Balance (c .paired .result)) (omega arith) (c .paired .ensures .1),
 )
 
