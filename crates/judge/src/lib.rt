@@ -67,10 +67,7 @@ fn judge_sheet(standing: Standing, s: Sheet) -> Judged
         return Judged::Refused(n);
     }
     let weighed = standing.weighed;
-    Judged::Accepted(Standing {
-        weighed,
-        sheet: 1,
-    })
+    Judged::Accepted(Standing { weighed, sheet: 1 })
 }
 
 // A change, behind 9.
