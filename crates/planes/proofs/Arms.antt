@@ -3,7 +3,7 @@
 -- Assumes nothing.
 use mathlib.Core.Path.{_≡_, sym, ap, _∙_}
 use mathlib.Core.Bool.{Bool, true, false, not, _&&_}
-use Prim.Native.Nat.{ℕ, _+_, _*_, _≤_}
+use Prim.Native.Nat.{ℕ, _+_, _≤_}
 use native.Mathlib.Nat.{mul-le-mul-left}
 use native.Mathlib.Omega.{arith}
 use lib.Dec.{leb}
@@ -11,7 +11,7 @@ use lib.IntN.{ℤ, pos, natAbs, _+ℤ_, _-ℤ_}
 use lib.Signed.{leZ}
 use borrow.Author.Tests.{leb-true, le-leb}
 use Rattle.laws.specs.Tests.{same, both, left, right, turned-no}
-use Rattle.laws.specs.Z.{Is, up, dn, is-nat, is-int, is-add, is-sub, same as same-number, hyp-eq, hyp-leZ, goal-leZ, abs-eq, one-side}
+use Rattle.laws.specs.Z.{up, dn, is-nat, is-int, is-add, is-sub, same as same-number, hyp-eq, hyp-leZ, goal-leZ, abs-eq, one-side}
 use Rattle.paper.specs.declared.Sheet.{Sheet}
 use Rattle.paper.specs.declared.Seat.{Seat}
 use Rattle.paper.specs.Units.{between}
