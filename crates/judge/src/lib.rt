@@ -21,8 +21,8 @@ pub enum Weighed {
     Balance(Balance),
 }
 
-// What stands in a list: what was weighed, and whether there is a sheet, 1 or 0. A whole word, since a copy of the padding behind
-// a byte takes longer than the rest of an entry.
+// What stands in a list: what was weighed, and whether there is a sheet, 1 or 0. A whole word: with a byte, which has
+// padding behind it, entries took longer to read (docs/DECISIONS.md, card 4).
 pub struct Standing {
     pub weighed: Weighed,
     pub sheet: u64,
