@@ -15,7 +15,7 @@ DECL = re.compile(r"^(\s*)((?:(?:abbrev|unfoldable|pub|data|record)\s+)*)([^\s:(
 TOKEN = re.compile(r"[^\s(){}\[\],;.:=λ|«»`\"]+")
 LIBRARY = set("""length append map take drop set replicate add mul sub neg div mod le lt eq leb ltb eqb cond get_or reverse
 to_z of_z le_z lt_z non_neg nat_abs pos mag subst""".split())
-KEEP = {"A-to-K": "a_to_k"}
+KEEP = {"A-to-K": "a_to_k", "are-bytes": "are_bytes_lem"}
 
 
 def own_files():

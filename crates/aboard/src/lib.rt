@@ -1,3 +1,5 @@
+#![tactic(auto)]
+
 // What the front load of a row comes on top of: the glider with a rear load and water aboard. It is carried from row to row by
 // additions alone.
 ghost use Rattle.std.specs.Prelude.{◌≡◌, ℕ, ◌+◌, ◌*◌, ◌≤◌};
@@ -11,7 +13,7 @@ use laws::Sides;
 use paper::{Sheet, Weight};
 
 // FWD, 20 times the safe aft limit, and the arms of rear seat and water, each by its two sides.
-#[derive(Drop)]
+#[derive(Clone, Copy)]
 pub struct Arms {
     pub fwd: Sides,
     pub safe: Sides,
@@ -20,7 +22,7 @@ pub struct Arms {
 }
 
 // A weight in half grams, its moment, and the moments that FWD and 20 times the safe aft limit have at that weight.
-#[derive(Drop)]
+#[derive(Clone, Copy)]
 pub struct Laden {
     pub weight: u64,
     pub moment: Sides,

@@ -1,3 +1,5 @@
+#![tactic(auto)]
+
 // An entry of plain numbers, as the library for C and Rust is handed them.
 ghost use Rattle.std.specs.Prelude.{◌≡◌};
 ghost use Rattle.paper.specs.declared.Entry.TheVariants as entry;

@@ -1,10 +1,12 @@
+#![tactic(auto)]
+
 // What a list of entries weighs, as the code carries it, and its empty centre of gravity.
 ghost use Rattle.std.specs.Prelude.{◌≡◌};
 ghost use Rattle.paper.specs.Record as paper;
 ghost use Rattle.balance.specs.Balance.{plain, Bounded};
 
 // G, M and n in half grams, with no sign: M is what turns aft less what turns forward.
-#[derive(Drop)]
+#[derive(Clone, Copy)]
 pub struct Balance {
     pub total: u64,
     pub aft: u64,

@@ -10,7 +10,7 @@ use native.Mathlib.Omega.{arith}
 use borrow.Author.Tests.{eq-eqb}
 use lib.ListN.{length, take, drop, drop_of_length-le}
 use lib.Seq.{take_all}
-use Rattle.bytes.specs.Bytes.{index_of, slice}
+use Rattle.laws.specs.Bytes.{index_of, slice}
 use Rattle.laws.specs.Splits.{split, index_most, split_first, split_whole, part-found, rest-found, further}
 use Rattle.paper.specs.declared.Entry.{Entry}
 use Rattle.paper.specs.Placard.{feed}

@@ -1,3 +1,5 @@
+#![tactic(auto)]
+
 // The logbook: a text whose lines, in turn, are calls on a fresh record.
 ghost use Rattle.std.specs.Prelude.{◌≡◌};
 ghost use Rattle.book.specs.Books.{book_of, failing as Books·failing, reading_of};
@@ -7,7 +9,7 @@ use language::Line;
 use record::{Record, Slot};
 
 // How a logbook ends: whole, or at the line with this number, with the number of refusal where its call is refused.
-#[derive(Drop)]
+#[derive(Clone, Copy)]
 pub enum Ending {
     Whole,
     Refused(usize, u64),
@@ -15,7 +17,7 @@ pub enum Ending {
 }
 
 // What a logbook comes to: its record, which is a fresh one where it fails, and how it ends.
-#[derive(Drop)]
+#[derive(Clone, Copy)]
 pub struct Reading {
     pub log: Record,
     pub ending: Ending,

@@ -1,3 +1,5 @@
+#![tactic(auto)]
+
 // Tries the record's calls on the worked weighings, at every bound, in every order of refusal and along the list.
 // The cases stand on standard input, a line for each, as texts by the letters of the crate `script`: a label, a colon, and
 // calls that go on from the record that the line before left. A line that begins with # is a comment.

@@ -1,3 +1,5 @@
+#![tactic(auto)]
+
 // What the centre-of-gravity call answers of what stands.
 ghost use Rattle.std.specs.Prelude.{◌≡◌, List};
 ghost use Rattle.paper.specs.Answers.{centre_answer};

@@ -1,3 +1,5 @@
+#![tactic(auto)]
+
 // What a change makes of a balance: its number of refusal, and the balance afterwards.
 ghost use Rattle.std.specs.Prelude.{◌≡◌, cond, ◌+◌, ◌^◌, ◌≤◌, ◌<◌, eqb, pos, negsuc, ◌+ℤ◌, ◌-ℤ◌, ◌*ℤ◌, ◌≤ℤ◌};
 ghost use Rattle.std.proofs.Math.Option.{some};
@@ -102,7 +104,7 @@ pub fn number(b: Balance, x: Change) -> u64
 // G, M and n afterwards: what is added to M goes to the side that its sign says.
 pub fn changed(b: Balance, x: Change) -> Balance
     requires ranged { Ranged b × (b.aft < 2 ^ 59) × (b.fore < 2 ^ 59) }
-    requires x_value { first_number (change_faults (some (plain b)) x) ≡ 0 }
+    requires accepted { first_number (change_faults (some (plain b)) x) ≡ 0 }
     ensures { (plain result ≡ paper.changed (plain b) x) × Ranged result × (result.aft ≤ b.aft + an_entry) × (result.fore ≤ b.fore + an_entry) }
 {
     let gain = half_grams(x.c);

@@ -1,3 +1,5 @@
+#![tactic(auto)]
+
 // Weighs a glider that has a record of 32 entries, one weighing and 31 changes, once for each byte on standard input, and
 // writes how many of these calls were accepted with a 33rd entry. So the difference of two runs under a counter of
 // instructions, by the difference of their inputs, is what one call costs.

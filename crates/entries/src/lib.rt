@@ -1,3 +1,5 @@
+#![tactic(auto)]
+
 // One entry's bytes: written at a place of a buffer, and read at a place of a slice.
 ghost use Rattle.std.specs.Prelude.{◌≡◌, ◌+◌, ◌≤◌, length};
 ghost use Rattle.laws.specs.Written.{written};
@@ -7,7 +9,7 @@ ghost use Rattle.entries.specs.Walking.{fields_walk, walk_at};
 use paper::Entry;
 
 // What reading an entry at a place finds: it and the place behind it, or nothing that is one.
-#[derive(Drop)]
+#[derive(Clone, Copy)]
 pub enum Walk {
     Got(Entry, usize),
     Nothing,

@@ -1,3 +1,5 @@
+#![tactic(auto)]
+
 // An entry's fields at a place, by the widths of its kind's row: put, and read as words.
 ghost use Rattle.std.specs.Prelude.{◌≡◌, ◌+◌, ◌≤◌, length, take, drop};
 ghost use Rattle.laws.specs.Written.{written};

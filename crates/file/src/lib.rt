@@ -1,3 +1,5 @@
+#![tactic(auto)]
+
 // The record's file: writing a record into a lent buffer, and reading one back from any bytes.
 ghost use Rattle.std.specs.Prelude.{◌≡◌, map, ◌≤◌, length};
 ghost use Rattle.laws.specs.Written.{written};

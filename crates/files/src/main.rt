@@ -1,3 +1,5 @@
+#![tactic(auto)]
+
 // Tries the record's file: the worked cases, every byte and every number of a short file altered, files cut off and
 // lengthened, entries judged in turn, 64 entries, records that files are read into, and buffers of each size.
 //

@@ -12,7 +12,7 @@ use Rattle.paper.specs.declared.Entry.{Entry}
 use Rattle.paper.specs.File.{bytes_of, entry_bytes, body_as, file_as, version, file_bytes, take_number, take_entries, is_version, last_kind, kinds_to, only_kinds, take_body, laid_out}
 use Rattle.paper.specs.Refusals.{entry_number, accepted_after, accepted, only_accepted, file_of}
 use Rattle.paper.specs.Rows.{joined}
-use Rattle.format.specs.Numbers.{bytes-append, length-bytes, are_bytes}
+use Rattle.format.specs.Numbers.{bytes-append, length-bytes, are_bytes_lem}
 use Rattle.format.specs.Rows.{kinds_all}
 use Rattle.format.specs.Fitting.{entry_fits}
 use Rattle.format.specs.Values.{number_read, number_written, bytes-behind}
@@ -52,7 +52,7 @@ body_are_bytes : (v : ℕ) (es : List Entry) → v < 256 → are_bytes (body_as 
 unfolding body_as
 body_are_bytes v es h =
     let rest = bytes_of 1 (length es) ++ joined (map entry_bytes es) in
-    both (ltb v 256) (are_bytes rest) (lt-ltb v 256 h) (bytes-append (bytes_of 1 (length es)) (joined (map entry_bytes es)) (are_bytes 1 (length es)) (entries_are_bytes es))
+    both (ltb v 256) (are_bytes rest) (lt-ltb v 256 h) (bytes-append (bytes_of 1 (length es)) (joined (map entry_bytes es)) (are_bytes_lem 1 (length es)) (entries_are_bytes es))
 
 body_read : (v : ℕ) (es : List Entry) → Allows v es → EachFits es → length es ≤ 64 → take_body (body_as v es) ≡ some es
 unfolding take_body body_as
@@ -87,7 +87,7 @@ file_length es = omega (arith, length-append (bytes_of 4 (length (body_as versio
 
 file_are_bytes : (v : ℕ) (es : List Entry) → v < 256 → are_bytes (file_as v es) ≡ true
 unfolding file_as
-file_are_bytes v es h = bytes-append (bytes_of 4 (length (body_as v es))) (body_as v es) (are_bytes 4 (length (body_as v es))) (body_are_bytes v es h)
+file_are_bytes v es h = bytes-append (bytes_of 4 (length (body_as v es))) (body_as v es) (are_bytes_lem 4 (length (body_as v es))) (body_are_bytes v es h)
 
 file_read : (v : ℕ) (es : List Entry) → Allows v es → EachFits es → length es ≤ 64 → laid_out (file_as v es) ≡ some es
 unfolding laid_out file_as bind

@@ -47,11 +47,11 @@ bytes = record { none = λ n. refl; more = λ k n. refl }
 pub length-bytes : (k n : ℕ) → length (bytes_of k n) ≡ k
 length-bytes = length_spelled bytes
 
-pub are_bytes : (k n : ℕ) → are_bytes (bytes_of k n) ≡ true
+pub are_bytes_lem : (k n : ℕ) → are_bytes (bytes_of k n) ≡ true
 unfolding bytes_of
-are_bytes zero n = refl
-are_bytes (suc k) n =
-    both (ltb (n / 256 ^ k % 256) 256) (are_bytes (bytes_of k n)) (lt-ltb (n / 256 ^ k % 256) 256 (mod-lt (n / 256 ^ k) (zero-lt-suc 255))) (are_bytes k n)
+are_bytes_lem zero n = refl
+are_bytes_lem (suc k) n =
+    both (ltb (n / 256 ^ k % 256) 256) (are_bytes (bytes_of k n)) (lt-ltb (n / 256 ^ k % 256) 256 (mod-lt (n / 256 ^ k) (zero-lt-suc 255))) (are_bytes_lem k n)
 
 -- what stands above them does not matter
 pub bytes_low : (k m n : ℕ) → bytes_of k (m * 256 ^ k + n) ≡ bytes_of k n

@@ -7,7 +7,7 @@ use Rattle.std.proofs.Math.Pow.{are_bytes}
 use Rattle.std.proofs.Math.Seq.{drop-append_seam}
 use Rattle.laws.specs.Options.{cond_passed, cond-found}
 use Rattle.paper.specs.File.{Field, bytes_of, number_of, complement, field_bytes, field_value, fields_bytes, take_number, take_fields}
-use Rattle.format.specs.Numbers.{bytes_take, bytes_drop, bytes-append, length-bytes, are_bytes, number_bound, number_back, bytes_number}
+use Rattle.format.specs.Numbers.{bytes_take, bytes_drop, bytes-append, length-bytes, are_bytes_lem, number_bound, number_back, bytes_number}
 use Rattle.format.specs.Fields.{widths, total, numbers_from, values_by}
 use Rattle.format.specs.Fitting.{AllFit, done, ◌and◌}
 
@@ -70,7 +70,7 @@ pub fields_are_bytes : (fs : List Field) (vs : List ℤ) → are_bytes (fields_b
 unfolding fields_bytes field_bytes
 fields_are_bytes [] vs = refl
 fields_are_bytes (f ∷ fs) [] = refl
-fields_are_bytes (f ∷ fs) (v ∷ vs) = bytes-append (bytes_of f.width (complement f.width v)) (fields_bytes fs vs) (are_bytes f.width (complement f.width v)) (fields_are_bytes fs vs)
+fields_are_bytes (f ∷ fs) (v ∷ vs) = bytes-append (bytes_of f.width (complement f.width v)) (fields_bytes fs vs) (are_bytes_lem f.width (complement f.width v)) (fields_are_bytes fs vs)
 
 pub fields_length : (fs : List Field) (vs : List ℤ) → length vs ≡ length fs → length (fields_bytes fs vs) ≡ total (widths fs)
 unfolding fields_bytes field_bytes widths total

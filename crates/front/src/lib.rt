@@ -1,3 +1,5 @@
+#![tactic(auto)]
+
 // The record that is lent as its file at the front of a buffer: what it holds, and the calls that ask and change nothing. What
 // stands behind the file is free. Each call answers by the paper's number, 0 where it is accepted.
 ghost use Rattle.std.specs.Prelude.{◌≡◌};

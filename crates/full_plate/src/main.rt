@@ -1,3 +1,5 @@
+#![tactic(auto)]
+
 // The program `placard`, run on a file whose sheet gives 256 rows: 9,216 bytes of placard.
 fn main() {
     printing::run();

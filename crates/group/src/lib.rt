@@ -1,3 +1,5 @@
+#![tactic(auto)]
+
 // The rows of a placard that stand beside one rear load, as lines in a lent buffer. What is aboard is carried from row to row.
 ghost use Rattle.std.specs.Prelude.{◌≡◌, false, List, ℕ, ◌+◌, ◌*◌, ◌≤◌, ◌<◌, length};
 ghost use Rattle.laws.specs.Written.{written};
@@ -25,7 +27,7 @@ pub const LINE: usize = 36;
 pub const WATERS: usize = MOST_ROWS as usize;
 
 // What all rows of a placard have in common: the arms, the front seat, and a step of water.
-#[derive(Drop)]
+#[derive(Clone, Copy)]
 pub struct Terms {
     pub arms: Arms,
     pub front: Front,

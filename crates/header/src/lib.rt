@@ -1,3 +1,5 @@
+#![tactic(auto)]
+
 // The header of a record's file: its length, its version, and the kinds of entry that a version has.
 ghost use Rattle.std.specs.Prelude.{◌≡◌, ◌≤◌, length};
 ghost use Rattle.laws.specs.Written.{written};

@@ -1,3 +1,5 @@
+#![tactic(auto)]
+
 // One judgement of an entry against what stands: it serves every call and the reader of a file.
 ghost use Rattle.std.specs.Prelude.{◌≡◌, true, ℕ, ◌+◌};
 ghost use Rattle.std.proofs.Math.Option.{some, map};
@@ -9,7 +11,7 @@ use balance::Balance;
 use paper::{CAPACITY, Change, Entry, Paired, Seat, Sheet, Weighing};
 
 // No weighing, or the balance of the last one and the changes behind it.
-#[derive(Drop)]
+#[derive(Clone, Copy)]
 pub enum Weighed {
     Never,
     Balance(Balance),
@@ -17,14 +19,14 @@ pub enum Weighed {
 
 // What stands in a list: what was weighed, and whether there is a sheet, 1 or 0. A whole word: with a byte, which has
 // padding behind it, entries took longer to read (docs/DECISIONS.md, card 4).
-#[derive(Drop)]
+#[derive(Clone, Copy)]
 pub struct Standing {
     pub weighed: Weighed,
     pub sheet: u64,
 }
 
 // What an entry gets: its number of refusal, or what stands once it is added.
-#[derive(Drop)]
+#[derive(Clone, Copy)]
 pub enum Judged {
     Refused(u64),
     Accepted(Standing),

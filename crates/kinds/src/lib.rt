@@ -1,3 +1,5 @@
+#![tactic(auto)]
+
 // Each kind of entry of its values in the order of the file.
 ghost use Rattle.std.specs.Prelude.{◌≡◌, nat_abs};
 ghost use Rattle.paper.specs.declared.Entry.TheVariants as entry;

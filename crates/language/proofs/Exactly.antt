@@ -10,7 +10,7 @@ use lib.IntN.{ℤ, pos, nat_abs}
 use lib.ListN.{length, replicate, drop, get_or}
 use lib.Seq.{take_at, take_all}
 use borrow.Author.Tests.{eq-eqb, eqb-true}
-use Rattle.bytes.specs.Bytes.{index_of}
+use Rattle.laws.specs.Bytes.{index_of}
 use Rattle.laws.specs.Equal.{eq_list, same_list, list_same}
 use Rattle.laws.specs.Lists.{Each, each_more}
 use Rattle.laws.specs.Splits.{index_first, index_none, drop-part, drop_past}

@@ -8,7 +8,7 @@ use native.Mathlib.Omega.{arith}
 use lib.IntN.{ℤ}
 use lib.ListN.{length, take, drop, set}
 use lib.Seq.{take-suc-set, append_snoc}
-use Rattle.bytes.specs.Bytes.{index_of, slice}
+use Rattle.laws.specs.Bytes.{index_of, slice}
 use Rattle.laws.specs.Splits.{part-found, rest-found}
 use Rattle.paper.specs.Placard.{space}
 use Rattle.numerals.specs.Numerals.{value_of}

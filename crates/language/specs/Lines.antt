@@ -1,7 +1,7 @@
 -- The logbook's language. A line is the text of an entry, or `undo`, or it is passed over; every other line is not understood.
 -- `Means` says so; `says` works it out, and crates/language/proofs/Exactly.antt shows that the two are one.
 use Rattle.std.specs.Prelude.{◌≡◌, Bool, true, false, cond, List, [], ◌∷◌, ℕ, zero, suc, eqb, ℤ, get_or, take, drop}
-use Rattle.bytes.specs.Bytes.{index_of}
+use Rattle.laws.specs.Bytes.{index_of}
 use Rattle.laws.specs.Equal.{eq_list}
 use Rattle.paper.specs.declared.Entry.{Entry}
 use Rattle.paper.specs.Placard.{space}

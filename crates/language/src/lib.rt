@@ -1,3 +1,5 @@
+#![tactic(auto)]
+
 // The logbook's language: what a line says.
 ghost use Rattle.std.specs.Prelude.{◌≡◌, suc, ◌≤◌, eqb, length, get_or, drop};
 ghost use Rattle.laws.specs.Equal.{eq_list};
@@ -10,7 +12,7 @@ use paper::Entry;
 const LONGEST: usize = 338;
 
 // What a line says.
-#[derive(Drop)]
+#[derive(Clone, Copy)]
 pub enum Line {
     Passed,
     Undo,

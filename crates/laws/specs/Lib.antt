@@ -5,6 +5,7 @@ pub mod Written
 pub mod Puts
 pub mod Begun
 pub mod Spelled
+pub mod Bytes
 pub mod Splits
 pub mod Options
 pub mod Slopes

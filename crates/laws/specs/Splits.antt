@@ -5,7 +5,7 @@ use Rattle.std.proofs.Common.{sym, ◌∙◌, arith, length-drop, drop-drop, eq-
 use Rattle.std.proofs.Math.Path.{ap}
 use mathlib.Core.List.{List, [], ◌∷◌, ◌++◌}
 use Rattle.std.proofs.Math.Seq.{take-length}
-use Rattle.bytes.specs.Bytes.{slice, index_after, index_of}
+use Rattle.laws.specs.Bytes.{slice, index_after, index_of}
 use Rattle.laws.specs.Lists.{Each}
 
 -- an element in front of the first part
@@ -87,7 +87,6 @@ module _ (c : ℕ) (s : List ℕ) (at end : ℕ) (found : end ≡ at + index_of 
   rest = drop at s
 
   end_is : end ≡ at + index_of c rest
-  unfolding slice
   end_is = found ∙ ap (λ (l : List ℕ). at + index_of c (drop at l)) (take-length s)
 
   pub part-found : take (end - at) rest ≡ take (index_of c rest) rest

@@ -1,10 +1,14 @@
+#![tactic(auto)]
+
 // Numbers with nothing of gliders in them: a signed number's two sides, a product and a quotient with their bounds.
 // The crate's specs/ hold the lemmas that every crate above rests on.
-ghost use Rattle.std.specs.Prelude.{◌≡◌, ◌*◌, ◌/◌, ◌^◌, ◌≤◌, ◌<◌, pos, negsuc, ◌-ℤ◌, ◌≤ℤ◌, ◌<ℤ◌};
+ghost use Rattle.std.specs.Prelude.{◌≡◌, ◌+◌, ◌*◌, ◌/◌, ◌^◌, ◌≤◌, ◌<◌, length, pos, negsuc, ◌-ℤ◌, ◌≤ℤ◌, ◌<ℤ◌};
+ghost use Rattle.laws.specs.Bytes.{slice, index_of};
+ghost use Rattle.laws.specs.Written.{written};
 ghost use Rattle.laws.specs.Z.{SidesOf};
 
 // A signed number by two sides, the one less the other.
-#[derive(Drop)]
+#[derive(Clone, Copy)]
 pub struct Sides {
     pub up: u64,
     pub down: u64,
@@ -66,4 +70,28 @@ pub fn over(n: u64, d: u64) -> u64
     ensures { (result ≡ n / d) × (result ≤ n) }
 {
     n / d
+}
+
+// The place of the first byte b from one place to another; the other place where there is none.
+pub fn find(s: &[u8], from: usize, to: usize, b: u8) -> usize
+    requires { (from ≤ to) × (to ≤ length s.now) }
+    ensures { (result ≡ from + index_of b (slice from to s.now)) × (result ≤ to) }
+{
+    for i in from..to {
+        if s[i] == b {
+            return i;
+        }
+    }
+    to
+}
+
+// Copies bytes to the front of a buffer. The answer is how many.
+pub fn copy(s: &[u8], out: &mut [u8]) -> usize
+    requires { length s.now ≤ length out.old }
+    ensures { (result ≡ length s.now) × (out.new ≡ written out.old 0 s.now) }
+{
+    for i in 0..s.len() {
+        out[i] = s[i];
+    }
+    s.len()
 }

@@ -1,3 +1,5 @@
+#![tactic(auto)]
+
 // How an entry lies in the file: the widths of its fields, a row for each kind, and its values as the words that they hold.
 ghost use Rattle.std.specs.Prelude.{◌≡◌};
 ghost use Rattle.paper.specs.declared.Entry.TheVariants as entry;
@@ -11,7 +13,7 @@ use words::word_of;
 pub const FIELDS: usize = 15;
 
 // A row of the table: how many fields, how many bytes they take, and the width of each. No field: no such kind.
-#[derive(Drop)]
+#[derive(Clone, Copy)]
 pub struct Layout {
     pub count: usize,
     pub length: usize,
@@ -19,7 +21,7 @@ pub struct Layout {
 }
 
 // An entry's kind, and the words of its fields.
-#[derive(Drop)]
+#[derive(Clone, Copy)]
 pub struct Fields {
     pub kind: u8,
     pub words: [u64; FIELDS],

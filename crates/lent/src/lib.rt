@@ -1,3 +1,5 @@
+#![tactic(auto)]
+
 // The calls that change a record which is lent as its file at the front of a buffer. The file is surveyed in place and changed in
 // place; what stands behind it in the buffer is free and stays. Each call answers by the paper's number, 0 where it is accepted.
 // A file of an older version is taken as it is, and the first call that changes it leaves it in the version that is written.

@@ -1,3 +1,5 @@
+#![tactic(auto)]
+
 // The lines of limits, solved for the number of front steps: each narrows a span of numbers. What is aboard beside the front load
 // is in half grams, and so is all that is reckoned here.
 ghost use Rattle.std.specs.Prelude.{◌≡◌, ◌&&◌, ◌||◌, true, false, ℕ, ◌+◌, ◌*◌, leb, eqb, pos, ◌+ℤ◌};
@@ -14,7 +16,7 @@ use paper::{Seat, Sheet, Weight};
 use solver::Span;
 
 // The front seat: its two ends, the numbers of steps that there are, and what a step weighs and turns at each end.
-#[derive(Drop)]
+#[derive(Clone, Copy)]
 pub struct Front {
     pub seat: Seat,
     pub steps: Span,

@@ -1,3 +1,5 @@
+#![tactic(auto)]
+
 // A line of the placard: rear load, water, smallest and largest front load, in 36 bytes. The eight bytes of a field are made as
 // one number, a word, and LLVM makes one store of them.
 ghost use Rattle.std.specs.Prelude.{◌≡◌, ◌∷◌, ◌++◌, ℕ, ◌+◌, ◌^◌, ◌≤◌, ◌<◌, length};

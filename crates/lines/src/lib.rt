@@ -1,3 +1,5 @@
+#![tactic(auto)]
+
 // What the programs print, on standard output where no other place is named, and parts of what they take.
 use libc::STDOUT_FILENO;
 use record::Record;

@@ -1,3 +1,5 @@
+#![tactic(auto)]
+
 // The listing of a record: its entries as lines of a logbook, with what each weighing and change comes to as a comment.
 ghost use Rattle.std.specs.Prelude.{◌≡◌, ◌+◌, ◌≤◌, length};
 ghost use Rattle.laws.specs.Written.{written};

@@ -1,3 +1,5 @@
+#![tactic(auto)]
+
 // Reads a logbook on standard input and writes its record's file on standard output. Where a line is refused or not
 // understood it writes no file, and says so in a line on standard error.
 use libc::{STDERR_FILENO, STDIN_FILENO};

@@ -1,3 +1,5 @@
+#![tactic(auto)]
+
 // Tries logbooks: cases on standard input, and the samples, whose files are beside the program when it runs.
 mod again;
 mod cases;

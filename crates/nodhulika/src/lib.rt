@@ -1,3 +1,5 @@
+#![tactic(auto)]
+
 // The library for C and Rust: functions on numbers and byte slices. A record is lent as its file at the front of a buffer.
 // Each function answers by the paper's number of refusal, 0 where there is none; include/nodhulika.h is its header.
 ghost use Rattle.std.specs.Prelude.{◌≡◌, [], ◌++◌, ◌≤◌, length};

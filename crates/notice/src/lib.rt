@@ -1,3 +1,5 @@
+#![tactic(auto)]
+
 // What the programs say of a logbook that they refuse.
 use book::Ending;
 

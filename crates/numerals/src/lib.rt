@@ -1,3 +1,5 @@
+#![tactic(auto)]
+
 // Whole numbers as words of text: written in decimal, and read.
 ghost use Rattle.std.specs.Prelude.{◌≡◌, ◌+◌, ◌≤◌, ◌<◌, ◌^◌, length, take};
 ghost use Rattle.laws.specs.Written.{written};

@@ -1,3 +1,5 @@
+#![tactic(auto)]
+
 // The placard of a balance and a sheet: a line for each row, into a lent buffer.
 ghost use Rattle.std.specs.Prelude.{◌≡◌, false, List, ◌*◌, ◌≤◌, length};
 ghost use Rattle.std.proofs.Math.Option.{some};

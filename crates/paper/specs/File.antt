@@ -5,11 +5,6 @@ use Rattle.std.proofs.Math.Option
 use Rattle.std.proofs.Math.Option.{Option, none, some, bind}
 use Rattle.std.proofs.Math.Pow.{are_bytes}
 use Rattle.paper.specs.declared.Station.{Station}
-use Rattle.paper.specs.declared.Weighing.{Weighing}
-use Rattle.paper.specs.declared.Sheet.{Sheet}
-use Rattle.paper.specs.declared.Change.{Change}
-use Rattle.paper.specs.declared.Paired.{Paired}
-use Rattle.paper.specs.declared.Seat.{Seat}
 use Rattle.paper.specs.declared.Entry.{Entry}
 use Rattle.paper.specs.declared.Entry.TheVariants as entry
 use Rattle.paper.specs.Rows.{joined}

@@ -1,3 +1,5 @@
+#![tactic(auto)]
+
 // What the papers speak of, as types: weights and arms, the entries, a row, and what the calls answer.
 // What the papers say of them is in specs/, a file for each heading of paper 01.
 ghost use Rattle.std.specs.Prelude.{◌≡◌};
@@ -10,7 +12,7 @@ pub const CAPACITY: usize = 64;
 pub const MOST_ROWS: u64 = 256;
 
 // Whole grams.
-#[derive(Drop)]
+#[derive(Clone, Copy)]
 pub struct Weight {
     pub grams: u64,
 }
@@ -36,7 +38,7 @@ impl Weight {
 }
 
 // Whole hundredths of a millimetre, positive aft of the datum.
-#[derive(Drop)]
+#[derive(Clone, Copy)]
 pub struct Arm {
     pub hundredths: i64,
 }
@@ -57,7 +59,7 @@ impl Arm {
 }
 
 // A weighing: method m, readings p and q, distances a and b, non-lifting weight n, by the paper's letters.
-#[derive(Drop)]
+#[derive(Clone, Copy)]
 pub struct Weighing {
     pub m: u64,
     pub p: u64,
@@ -68,7 +70,7 @@ pub struct Weighing {
 }
 
 // A paired weighing: two readings, p and q and then p' and q', with method, distances and non-lifting weight in common.
-#[derive(Drop)]
+#[derive(Clone, Copy)]
 pub struct Paired {
     pub m: u64,
     pub p: u64,
@@ -81,7 +83,7 @@ pub struct Paired {
 }
 
 // Where a load goes: its arm, the greatest load (for water the tank's capacity) and the step of the placard.
-#[derive(Drop)]
+#[derive(Clone, Copy)]
 pub struct Station {
     pub arm: i64,
     pub most: u64,
@@ -89,7 +91,7 @@ pub struct Station {
 }
 
 // A data sheet: FWD, AFT, DRY, WET, NLP; the front seat with its least load, the rear seat, the water tank.
-#[derive(Drop)]
+#[derive(Clone, Copy)]
 pub struct Sheet {
     pub fwd: i64,
     pub aft: i64,
@@ -103,7 +105,7 @@ pub struct Sheet {
 }
 
 // A change of equipment: its weight c (negative: taken out), its arm, and the flag of a non-lifting part.
-#[derive(Drop)]
+#[derive(Clone, Copy)]
 pub struct Change {
     pub c: i64,
     pub arm: i64,
@@ -111,13 +113,13 @@ pub struct Change {
 }
 
 // A seat entry: the two ends that the arm of a front load lies between, the lower first.
-#[derive(Drop)]
+#[derive(Clone, Copy)]
 pub struct Seat {
     pub lower: i64,
     pub higher: i64,
 }
 
-#[derive(Drop)]
+#[derive(Clone, Copy)]
 pub enum Entry {
     Weighing(Weighing),
     Sheet(Sheet),
@@ -127,14 +129,14 @@ pub enum Entry {
 }
 
 // A row of the placard: the smallest and the largest front load, or blank.
-#[derive(Drop)]
+#[derive(Clone, Copy)]
 pub enum Row {
     Range(u64, u64),
     Blank,
 }
 
 // What the centre-of-gravity call answers, total and moment in half grams; behind a refusal all but the number is 0.
-#[derive(Drop)]
+#[derive(Clone, Copy)]
 pub struct CentreOfGravity {
     pub number: u64,
     pub total: u64,
@@ -143,7 +145,7 @@ pub struct CentreOfGravity {
 }
 
 // What the placard call answers beside the buffer; behind a refusal all but the number is 0.
-#[derive(Drop)]
+#[derive(Clone, Copy)]
 pub struct Placard {
     pub number: u64,
     pub bytes: usize,
@@ -152,7 +154,7 @@ pub struct Placard {
 }
 
 // What writing answers beside the buffer; behind a refusal the length is 0.
-#[derive(Drop)]
+#[derive(Clone, Copy)]
 pub struct Written {
     pub number: u64,
     pub length: usize,

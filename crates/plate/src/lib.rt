@@ -1,3 +1,5 @@
+#![tactic(auto)]
+
 // The placard of a record: a line for each row of the sheet in force, into a lent buffer.
 ghost use Rattle.std.specs.Prelude.{◌≡◌, ◌≤◌};
 ghost use Rattle.paper.specs.Answers.{placard_answer};

@@ -1,3 +1,5 @@
+#![tactic(auto)]
+
 // Tries the placard call: the worked cases, document 000's gliders, buffers of each size, every refusal, lists of
 // calls, limits met and missed, the ends of every range, and gliders drawn by lot.
 // The cases stand on standard input, a line for each, as texts by the letters of the crate `script`: how many bytes are

@@ -1,3 +1,5 @@
+#![tactic(auto)]
+
 // What the program `placard` does: a record's file on standard input, its placard on standard output, or `refused `, the
 // number and a line feed. The programs that are run on the longest file and on the longest placard do the same.
 use libc::{STDIN_FILENO, STDOUT_FILENO};

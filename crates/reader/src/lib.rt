@@ -1,3 +1,5 @@
+#![tactic(auto)]
+
 // The reader that walks the entries of a stored file: a struct over its bytes and a place in them.
 // Other crates call `entry_at`, whose parameters are plain.
 ghost use Rattle.std.specs.Prelude.{◌≡◌};
@@ -6,7 +8,7 @@ ghost use Rattle.entries.specs.Walking.{walk_at};
 use entries::Walk;
 
 // The bytes of a file, and the place where the reader stands.
-#[derive(Drop)]
+#[derive(Clone, Copy)]
 pub struct Reader<'a> {
     src: &'a [u8],
     at: usize,

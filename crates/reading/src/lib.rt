@@ -1,3 +1,5 @@
+#![tactic(auto)]
+
 // One reading of a weighing, in grams: the conditions that it is refused for, its total and its moment by four methods.
 ghost use Rattle.std.specs.Prelude.{◌≡◌, false, not, ◌&&◌, ◌||◌, ◌+◌, ◌-◌, ◌*◌, ◌≤◌, leb, ltb, pos, ◌-ℤ◌};
 ghost use Rattle.paper.specs.Record as paper;
@@ -93,7 +95,7 @@ pub fn bad_nonlifting(w: Weighing) -> bool
 }
 
 // A moment as what turns aft and what turns forward.
-#[derive(Drop)]
+#[derive(Clone, Copy)]
 pub struct Moment {
     pub aft: u64,
     pub fore: u64,
@@ -162,7 +164,7 @@ fn moment_of(w: Weighing) -> Moment
 }
 
 // What one reading says: G, M and n in grams, with no sign.
-#[derive(Drop)]
+#[derive(Clone, Copy)]
 pub struct Reading {
     pub total: u64,
     pub aft: u64,

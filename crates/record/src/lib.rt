@@ -1,3 +1,5 @@
+#![tactic(auto)]
+
 // The record: a list of at most 64 accepted entries, and the calls on it. A record goes by value. Each call replays the
 // entries that it holds, so it answers for every value of the type, also for one that no call made.
 ghost use Rattle.std.specs.Prelude.{◌≡◌, [], ◌∷◌, ◌++◌};
@@ -9,27 +11,27 @@ ghost use Rattle.record.specs.Held.{unused_slot, record_of, held_by, answered, k
 use judge::{Judged, Standing, Weighed};
 use paper::{CAPACITY, CentreOfGravity, Change, Entry, Paired, Seat, Sheet, Weighing};
 
-#[derive(Drop)]
+#[derive(Clone, Copy)]
 pub struct Slot {
     pub entry: Entry,
 }
 
 // The first `count` slots hold the entries; the others hold what a fresh record's hold.
-#[derive(Drop)]
+#[derive(Clone, Copy)]
 pub struct Record {
     pub slots: [Slot; CAPACITY],
     pub count: usize,
 }
 
 // What a call that can change the record answers: its number, 0 where it is accepted, and the record.
-#[derive(Drop)]
+#[derive(Clone, Copy)]
 pub struct Kept {
     pub number: u64,
     pub log: Record,
 }
 
 // The entries of a record that their calls accept in turn, as a record of their own, and what stands in it.
-#[derive(Drop)]
+#[derive(Clone, Copy)]
 pub struct Replayed {
     pub log: Record,
     pub standing: Standing,

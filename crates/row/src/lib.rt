@@ -1,3 +1,5 @@
+#![tactic(auto)]
+
 // A row of the placard: the smallest and the largest front load that keeps every limit beside a rear load and water.
 ghost use Rattle.std.specs.Prelude.{◌≡◌, ℕ};
 ghost use Rattle.paper.specs.Record.{Balance};

@@ -1,3 +1,5 @@
+#![tactic(auto)]
+
 // Cases as texts, for the programs that try the library: a line is a label, a colon, and the calls with a comma between
 // two. w, v and u weigh, p weighs twice, s and l install a sheet, c makes a change, a adjusts the seat, - takes back, r reads
 // the record's own file into a fresh record, g reads the file of case G, o its version 1, x the first without its last byte,

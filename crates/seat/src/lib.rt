@@ -1,3 +1,5 @@
+#![tactic(auto)]
+
 // A seat entry's number of refusal, by the entry alone, and what is in force: a sheet, and the ends that its front arm lies between.
 ghost use Rattle.std.specs.Prelude.{◌≡◌};
 ghost use Rattle.std.proofs.Math.Option.{none, map};
@@ -21,7 +23,7 @@ pub fn bad_ends(f: Seat) -> bool
 }
 
 // The sheet in force, where there is one, and the ends that its front arm lies between.
-#[derive(Drop)]
+#[derive(Clone, Copy)]
 pub enum InForce {
     Nothing,
     Found(Sheet, Seat),

@@ -1,3 +1,5 @@
+#![tactic(auto)]
+
 // A data sheet's number of refusal, by the sheet alone.
 ghost use Rattle.std.specs.Prelude.{◌≡◌, false, ◌+◌, ◌/◌, ◌≤◌};
 ghost use Rattle.paper.specs.Refusals.{first_number, bad_arms, bad_ranges, is_step_to, bad_rows, sheet_faults};

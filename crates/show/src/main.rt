@@ -1,3 +1,5 @@
+#![tactic(auto)]
+
 // Reads a record's file on standard input and writes its listing on standard output: a logbook of its entries. A file that
 // is none gets `refused 12` on standard error.
 use libc::{STDERR_FILENO, STDIN_FILENO};

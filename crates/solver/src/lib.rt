@@ -1,3 +1,5 @@
+#![tactic(auto)]
+
 // How many steps of front load keep a limit: each limit is solved for the number of steps by one division. So what is found is a
 // step, and nothing is rounded afterwards.
 ghost use Rattle.std.specs.Prelude.{◌≡◌, ◌&&◌, true, ℕ, ◌+◌, ◌*◌, ◌^◌, ◌<◌, ◌≤◌, leb};
@@ -8,7 +10,7 @@ use laws::Sides;
 use paper::Row;
 
 // The numbers of steps from lo to hi; none where hi is below lo.
-#[derive(Drop)]
+#[derive(Clone, Copy)]
 pub struct Span {
     pub lo: u64,
     pub hi: u64,

@@ -1,3 +1,5 @@
+#![tactic(auto)]
+
 // A stored file: what stands in it, found by one walk over its entries. No record is made.
 ghost use Rattle.std.specs.Prelude.{◌≡◌, drop};
 ghost use Rattle.paper.specs.Refusals.{file_of};
@@ -12,7 +14,7 @@ use seat::InForce;
 
 // What stands in the file of a record: how many entries, their balance, what is in force, the place of the last entry (behind
 // the header where there is none) and the place behind it.
-#[derive(Drop)]
+#[derive(Clone, Copy)]
 pub struct Contents {
     pub count: usize,
     pub standing: Standing,
@@ -22,7 +24,7 @@ pub struct Contents {
 }
 
 // What some bytes are: the file of a record, or none.
-#[derive(Drop)]
+#[derive(Clone, Copy)]
 pub enum Stored {
     Nothing,
     File(Contents),

@@ -1,3 +1,5 @@
+#![tactic(auto)]
+
 // An entry of its kind and the words of its fields.
 ghost use Rattle.std.specs.Prelude.{◌≡◌, false};
 ghost use Rattle.paper.specs.declared.Entry.TheVariants as entry;

@@ -1,3 +1,5 @@
+#![tactic(auto)]
+
 // An entry as its values in the order of the file, and back.
 ghost use Rattle.std.specs.Prelude.{◌≡◌};
 ghost use Rattle.paper.specs.declared.Entry.TheVariants as entry;
@@ -8,7 +10,7 @@ use layout::FIELDS;
 use paper::{Change, Entry, Paired, Seat, Sheet, Weighing};
 
 // How many values an entry has, and they in the order of the file.
-#[derive(Drop)]
+#[derive(Clone, Copy)]
 pub struct Values {
     pub count: usize,
     pub places: [i64; FIELDS],

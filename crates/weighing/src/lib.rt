@@ -1,3 +1,5 @@
+#![tactic(auto)]
+
 // What a weighing says, plain or paired: its number of refusal, and its balance, from one reading or two.
 ghost use Rattle.std.specs.Prelude.{◌≡◌};
 ghost use Rattle.paper.specs.Record as paper;

@@ -1,3 +1,5 @@
+#![tactic(auto)]
+
 // The text of an entry, as a line of the logbook has it.
 ghost use Rattle.std.specs.Prelude.{◌≡◌, map, ◌+◌, ◌≤◌, length, take};
 ghost use Rattle.laws.specs.Written.{written};

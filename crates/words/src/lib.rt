@@ -1,3 +1,5 @@
+#![tactic(auto)]
+
 // Numbers as the file spells them: bytes with the highest first, and two's complement in four of them.
 ghost use Rattle.std.specs.Prelude.{◌≡◌, ◌+◌, ◌≤◌, length, take, drop};
 ghost use Rattle.laws.specs.Written.{written};
