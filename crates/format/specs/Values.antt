@@ -22,6 +22,8 @@ number_read k n xs h =
 pub fields_read : (fs : List Field) (vs : List ℤ) → AllFit fs vs → (xs : List ℕ) → take_fields fs (fields_bytes fs vs ++ xs) ≡ some (vs, xs)
 unfolding take_fields fields_bytes field_bytes bind
 fields_read [] [] done xs = refl
+fields_read [] (v ∷ vs) h xs = elim h [ ]
+fields_read (f ∷ fs) [] h xs = elim h [ ]
 fields_read (f ∷ fs) (v ∷ vs) (h and t) xs =
     let n = complement f.width v in
     rw (append_assoc (bytes_of f.width n) (fields_bytes fs vs) xs, number_read f.width n (fields_bytes fs vs ++ xs) h.small, fields_read fs vs t xs, h.reads)

@@ -1,0 +1,17 @@
+-- `layout::seat_words` meets its contract: its fields in the table's order, signed ones as words. Assumes nothing.
+use mir.Syntax.{w64}
+use borrow.Author.Rules.{rules}
+use mir.Facts.{to_z-of_z}
+use Rattle.paper.specs.File.{layout_of}
+use Rattle.format.specs.Fields.{words_by}
+use Rattle.layout.specs.Table.{words_of}
+use Rattle.layout.proofs.seat_words.Goals as goal
+
+pub returns : goal.returns
+unfolding words_of layout_of words_by
+returns c =
+    let told = c.struct_told-2-1.given in
+    rw (
+      rw (to_z-of_z {w = w64} (record { sfits = c.struct_told-1.given.0.1 })) at c.word_of-lower.ensures,
+      rw (to_z-of_z {w = w64} (record { sfits = told.1.0.1 })) at c.word_of-higher.ensures,
+    )

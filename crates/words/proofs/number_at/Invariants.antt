@@ -1,0 +1,12 @@
+-- `words::number_at` meets its contract. The loop's invariant: n is the number of the i bytes passed, and below what i bytes
+-- can spell; the measure is what is left of the width. Assumes nothing.
+use Rattle.std.proofs.Common.{◌≡◌, ℕ, ◌+◌, ◌-◌, ◌^◌, ◌<◌, ◌≤◌, get_or, take, drop, refl, ap, ◌∙◌, arith}
+use Rattle.paper.specs.File.{number_of}
+use Rattle.words.proofs.Turns.{read_more, below_more, below_four}
+use Rattle.words.proofs.number_at.Given as goal
+
+abbrev pub invariant-loop-i : goal.invariant-loop-i
+invariant-loop-i l = (l.i ≤ l.width) × (l.n < 256 ^ l.i) × (l.n ≡ number_of (take l.i (drop l.at l.s)))
+
+abbrev pub decreases-loop-i : goal.decreases-loop-i
+decreases-loop-i l = l.width - l.i
