@@ -1,0 +1,34 @@
+-- `fields::sheet_at` meets its contract: the words of a sheet stand one behind the other. Assumes nothing.
+use mathlib.Core.Path.{◌≡◌, sym, ◌∙◌}
+use mathlib.Core.List.{[], ◌∷◌}
+use Rattle.paper.specs.File.{layout_of}
+use Rattle.format.specs.Fields.{widths}
+use Rattle.format.specs.Rows.{fields_at}
+use Rattle.layout.specs.Table.{padded}
+use Rattle.fields.proofs.Placed.{placed, words_placed}
+use Rattle.fields.proofs.sheet_at.Goals as goal
+
+pub returns : goal.returns
+unfolding layout_of widths placed
+returns c =
+    let a = c.args in
+    let words : _ ≡ padded (placed a.s.now (widths (fields_at 2)) a.at) =
+    λ i. (
+    c.number_at.ensures i ∷
+    c.number_at-2.ensures i ∷
+    c.number_at-3.ensures i ∷
+    c.number_at-4.ensures i ∷
+    c.number_at-5.ensures i ∷
+    c.number_at-6.ensures i ∷
+    c.number_at-7.ensures i ∷
+    c.number_at-8.ensures i ∷
+    c.number_at-9.ensures i ∷
+    c.number_at-10.ensures i ∷
+    c.number_at-11.ensures i ∷
+    c.number_at-12.ensures i ∷
+    c.number_at-13.ensures i ∷
+    c.number_at-14.ensures i ∷
+    c.number_at-15.ensures i ∷
+    []
+    ) in
+    words ∙ sym (words_placed 2 a.s.now a.at)
