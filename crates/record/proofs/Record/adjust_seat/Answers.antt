@@ -3,15 +3,8 @@ use borrow.Author.Rules.{rules}
 use Rattle.paper.specs.Refusals.{entry_number}
 use Rattle.paper.specs.Journal.{call_number, accepted_call}
 use Rattle.record.specs.Held.{answered}
-use Rattle.record.proofs.Record.adjust_seat.Statement.{statement}
-use Rattle.record.proofs.Record.adjust_seat.Tie as tie
+use Rattle.record.proofs.Record.adjust_seat.Goals as goal
 
-add-requires : tie.Need-add-requires
-add-requires c κs = search rules
-
-returns : tie.Need-returns
+pub returns : goal.returns
 unfolding answered call_number accepted_call entry_number
 returns c = c.add.ensures
-
-pub adjust-seat-spec : {M : Type 1} → statement M
-adjust-seat-spec = tie.close (tie.spec add-requires returns)
