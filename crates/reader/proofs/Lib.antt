@@ -1,2 +1,0 @@
--- What the proofs share: the struct's type and its laws.
-pub mod Held
