@@ -3,46 +3,44 @@ use lines::{between, centre_of_gravity, text, unsigned};
 use record::{Kept, Record};
 use script::calls::played;
 use script::texts::{byte_at, place_of};
-use std::num::wrapping_add_usize;
+use std::io;
 
 // What a call answered, behind the label.
-fn answered(k: Kept) {
+fn answered(rt: &impl Print, k: Kept) -> io::Result<()> {
     let log = k.log;
     let back = log.undo();
-    text(b": ");
-    unsigned(k.number);
-    text(b"; ");
-    centre_of_gravity(log);
-    text(b"; ");
-    unsigned(back.number);
-    text(b"; ");
-    centre_of_gravity(back.log);
-    text(b"\n");
+    text(rt, b": ")?;
+    unsigned(rt, k.number)?;
+    text(rt, b"; ")?;
+    centre_of_gravity(rt, log)?;
+    text(rt, b"; ")?;
+    unsigned(rt, back.number)?;
+    text(rt, b"; ")?;
+    centre_of_gravity(rt, back.log)?;
+    text(rt, b"\n")
 }
 
 // A line; the answer is the record that it leaves.
-fn tried(r: Record, line: &[u8]) -> Record {
+fn tried(rt: &impl Print, r: Record, line: &[u8]) -> io::Result<Record> {
     if byte_at(line, 0) == b'#' {
-        return r;
+        return Ok(r);
     }
     let colon = place_of(line, b':');
-    let k = played(r, between(line, wrapping_add_usize(colon, 2), line.len()));
-    text(between(line, 0, colon));
-    answered(k);
-    k.log
+    let k = played(r, between(line, colon.wrapping_add(2), line.len()));
+    text(rt, between(line, 0, colon))?;
+    answered(rt, k)?;
+    Ok(k.log)
 }
 
 // The lines in turn, each with its line feed.
-pub fn each(s: &[u8]) {
+pub fn each(rt: &impl Print, s: &[u8]) -> io::Result<()> {
     let mut log = Record::fresh();
     let mut from = 0;
-    let mut i = 0;
-    while i < s.len() {
-        let x = s[i];
-        i += 1;
-        if x == b'\n' {
-            log = tried(log, between(s, from, i));
-            from = i;
+    for i in 0..s.len() {
+        if s[i] == b'\n' {
+            log = tried(rt, log, between(s, from, i + 1))?;
+            from = i + 1;
         }
     }
+    Ok(())
 }

@@ -8,6 +8,7 @@ use nodhulika::{
 };
 use paper::Entry;
 use script::texts::{byte_at, spelled};
+use std::io;
 use words::number_at;
 
 // The longest file and the longest placard's buffer that a case gives.
@@ -19,9 +20,9 @@ const PLACARD: usize = 9400;
 const ANSWER: usize = 24;
 
 // An answer behind the others of its case.
-fn answer(n: u64) {
-    text(b" ");
-    unsigned(n);
+fn answer(rt: &impl Print, n: u64) -> io::Result<()> {
+    text(rt, b" ")?;
+    unsigned(rt, n)
 }
 
 // The number in a line behind its first `from` bytes, at most `most`.
@@ -47,19 +48,15 @@ fn lent(buffer: &mut [u8], n: usize) -> &mut [u8] {
 
 // Every byte is AA.
 fn fill(buffer: &mut [u8]) {
-    let mut i = 0;
-    while i < buffer.len() {
-        buffer[i] = 0xAA;
-        i += 1;
-    }
+    buffer.fill(0xAA);
 }
 
 // `Fresh N`: a new case.
-fn fresh(line: &[u8], buffer: &mut [u8]) -> usize {
+fn fresh(rt: &impl Print, line: &[u8], buffer: &mut [u8]) -> io::Result<usize> {
     let n = number(line, 6, buffer.len());
     fill(buffer);
-    unsigned(nodhulika_fresh(lent(buffer, n)));
-    n
+    unsigned(rt, nodhulika_fresh(lent(buffer, n)))?;
+    Ok(n)
 }
 
 // `Read HEX`.
@@ -81,9 +78,9 @@ fn put(line: &[u8], buffer: &mut [u8]) {
 }
 
 // `Check`: the number, and the sum of the whole buffer.
-fn check(buffer: &[u8]) {
-    answer(nodhulika_check(buffer));
-    answer(lines::sum(buffer));
+fn check(rt: &impl Print, buffer: &[u8]) -> io::Result<()> {
+    answer(rt, nodhulika_check(buffer))?;
+    answer(rt, lines::sum(buffer))
 }
 
 // A number of an answer, as it stands in its bytes.
@@ -98,43 +95,44 @@ fn word(bytes: &[u8], from: usize) -> u64 {
 }
 
 // A number below 0 has its highest bit set.
-fn signed(n: u64) {
-    text(b" ");
+fn signed(rt: &impl Print, n: u64) -> io::Result<()> {
+    text(rt, b" ")?;
     if n < 9_223_372_036_854_775_808 {
-        unsigned(n);
+        unsigned(rt, n)
     } else {
-        text(b"-");
-        unsigned(18_446_744_073_709_551_615 - n + 1);
+        text(rt, b"-")?;
+        unsigned(rt, 18_446_744_073_709_551_615 - n + 1)
     }
 }
 
 // `Centre`: the number, and total, moment and centre where it is 0.
-fn centre(buffer: &[u8]) {
+fn centre(rt: &impl Print, buffer: &[u8]) -> io::Result<()> {
     let mut numbers = [0u8; ANSWER];
     let n = nodhulika_centre(buffer, &mut numbers);
-    answer(n);
+    answer(rt, n)?;
     if n == 0 {
-        answer(word(&numbers, 0));
-        signed(word(&numbers, 8));
-        signed(word(&numbers, 16));
+        answer(rt, word(&numbers, 0))?;
+        signed(rt, word(&numbers, 8))?;
+        signed(rt, word(&numbers, 16))?;
     }
+    Ok(())
 }
 
 // `Placard N`, which ends a case: the number, bytes, rows and blank rows where it is 0, and the sum of the whole placard's
 // buffer.
-fn placard(line: &[u8], buffer: &[u8]) {
+fn placard(rt: &impl Print, line: &[u8], buffer: &[u8]) -> io::Result<()> {
     let mut plate = [0xAAu8; PLACARD];
     let mut counts = [0u8; ANSWER];
     let out = lent(&mut plate, number(line, 8, PLACARD));
     let n = nodhulika_placard(buffer, out, &mut counts);
-    answer(n);
+    answer(rt, n)?;
     if n == 0 {
-        answer(word(&counts, 0));
-        answer(word(&counts, 8));
-        answer(word(&counts, 16));
+        answer(rt, word(&counts, 0))?;
+        answer(rt, word(&counts, 8))?;
+        answer(rt, word(&counts, 16))?;
     }
-    answer(lines::sum(out));
-    text(b"\n");
+    answer(rt, lines::sum(out))?;
+    text(rt, b"\n")
 }
 
 // A weighing, plain or paired, a data sheet, a change or a seat entry.
@@ -168,44 +166,47 @@ fn enter(buffer: &mut [u8], e: Entry) -> u64 {
 }
 
 // A call, as a line of a logbook.
-fn call(line: &[u8], buffer: &mut [u8]) {
+fn call(rt: &impl Print, line: &[u8], buffer: &mut [u8]) -> io::Result<()> {
     match language::read_line(line) {
-        Line::Entry(e) => answer(enter(buffer, e)),
-        Line::Undo => answer(nodhulika_undo(buffer)),
-        Line::Passed => text(b" passed"),
-        Line::NotUnderstood => text(b" not understood"),
+        Line::Entry(e) => answer(rt, enter(buffer, e)),
+        Line::Undo => answer(rt, nodhulika_undo(buffer)),
+        Line::Passed => text(rt, b" passed"),
+        Line::NotUnderstood => text(rt, b" not understood"),
     }
 }
 
 // `Check` or `Centre`.
-fn asked(second: u8, buffer: &[u8]) {
+fn asked(rt: &impl Print, second: u8, buffer: &[u8]) -> io::Result<()> {
     if second == b'h' {
-        check(buffer);
+        check(rt, buffer)
     } else {
-        centre(buffer);
+        centre(rt, buffer)
     }
 }
 
 // The action of a line by its first letters.
-fn done(line: &[u8], buffer: &mut [u8]) {
+fn done(rt: &impl Print, line: &[u8], buffer: &mut [u8]) -> io::Result<()> {
     let first = byte_at(line, 0);
     match first {
-        b'R' => answer(read(line, buffer)),
-        b'L' => put(line, buffer),
-        b'P' => placard(line, buffer),
-        b'C' => asked(byte_at(line, 1), buffer),
-        _ => call(line, buffer),
+        b'R' => answer(rt, read(line, buffer)),
+        b'L' => {
+            put(line, buffer);
+            Ok(())
+        }
+        b'P' => placard(rt, line, buffer),
+        b'C' => asked(rt, byte_at(line, 1), buffer),
+        _ => call(rt, line, buffer),
     }
 }
 
 // The action of a line on the first `room` bytes. The answer is how many bytes the next one gets.
-pub fn act(line: &[u8], buffer: &mut [u8], room: usize) -> usize {
+pub fn act(rt: &impl Print, line: &[u8], buffer: &mut [u8], room: usize) -> io::Result<usize> {
     if line.len() < 2 {
-        return room;
+        return Ok(room);
     }
     if line[0] == b'F' {
-        return fresh(line, buffer);
+        return fresh(rt, line, buffer);
     }
-    done(line, lent(buffer, room));
-    room
+    done(rt, line, lent(buffer, room))?;
+    Ok(room)
 }

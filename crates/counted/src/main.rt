@@ -3,10 +3,9 @@
 // Weighs a glider that has a record of 32 entries, one weighing and 31 changes, once for each byte on standard input, and
 // writes how many of these calls were accepted with a 33rd entry. So the difference of two runs under a counter of
 // instructions, by the difference of their inputs, is what one call costs.
-use libc::{STDIN_FILENO, STDOUT_FILENO};
 use paper::{Change, Weighing};
 use record::Record;
-use std::num::wrapping_add_u64;
+use std::io;
 
 const ENTRIES: usize = 32;
 
@@ -35,34 +34,29 @@ fn part(c: i64) -> Change {
 fn filled() -> Record {
     let first = Record::fresh().weigh(weighing(38_000));
     let mut r = first.log;
-    let mut i = 1;
-    while i < ENTRIES {
+    for i in 1..ENTRIES {
         let c = if i % 2 == 0 { -4_500 } else { 4_500 };
         let next = r.change(part(c));
         r = next.log;
-        i += 1;
     }
     r
 }
 
 // So many weighings, each on the record as it was.
 fn accepted(r: Record, calls: usize) -> u64 {
-    let mut n = 0;
-    let mut i = 0;
-    while i < calls {
+    let mut n = 0u64;
+    for i in 0..calls {
         let k = r.weigh(weighing(i as u64));
         if k.number == 0 && k.log.count == ENTRIES + 1 {
-            n = wrapping_add_u64(n, 1);
+            n = n.wrapping_add(1);
         }
-        i += 1;
     }
     n
 }
 
-fn main() {
+fn main(rt: HostRuntime) -> io::Result<()> {
     let mut input = [0u8; 4096];
-    let calls = io::read_full(STDIN_FILENO, &mut input);
+    let calls = lines::read_full(&mut rt.reader(), &mut input)?;
     let n = accepted(filled(), calls);
-    io::print_decimal(STDOUT_FILENO, n);
-    io::write_all(STDOUT_FILENO, b" accepted\n");
+    println!(rt; "{n} accepted")
 }

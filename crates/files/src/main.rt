@@ -19,7 +19,7 @@ mod cases;
 mod trial;
 mod written;
 
-use libc::STDIN_FILENO;
+use std::io;
 
 // The cases come in blocks of this many bytes, filled up with line feeds. Each begins with a fresh record.
 const BLOCK: usize = 16384;
@@ -27,14 +27,15 @@ const BLOCK: usize = 16384;
 const BLOCKS: usize = 25;
 
 // The next block.
-fn block() {
+fn block(rt: &(impl Input + Print)) -> io::Result<()> {
     let mut input = [0u8; BLOCK];
-    let n = io::read_full(STDIN_FILENO, &mut input);
-    cases::each(&input[..n]);
+    let n = lines::read_full(&mut rt.reader(), &mut input)?;
+    cases::each(rt, &input[..n])
 }
 
-fn main() {
+fn main(rt: HostRuntime) -> io::Result<()> {
     for _ in 0..BLOCKS {
-        block();
+        block(&rt)?;
     }
+    Ok(())
 }

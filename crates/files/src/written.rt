@@ -1,41 +1,39 @@
 // A record's file, written.
-use libc::STDOUT_FILENO;
 use lines::{between, centre_of_gravity, sum, text, unsigned, unwritten};
 use paper::Written;
 use record::Record;
-use std::num::wrapping_add_usize;
+use std::io;
 
 // What writing answered: number and length.
-pub fn numbers(w: Written) {
-    text(b" ");
-    unsigned(w.number);
-    text(b" ");
-    unsigned(w.length as u64);
-    text(b" ");
+pub fn numbers(rt: &impl Print, w: Written) -> io::Result<()> {
+    text(rt, b" ")?;
+    unsigned(rt, w.number)?;
+    text(rt, b" ")?;
+    unsigned(rt, w.length as u64)?;
+    text(rt, b" ")
 }
 
-fn byte(x: u8) {
-    io::print_hex(STDOUT_FILENO, x as u64, 2);
+fn byte(rt: &impl Print, x: u8) -> io::Result<()> {
+    print!(rt; "{x:02x}")
 }
 
 // Bytes, in digits of sixteen.
-fn hex(s: &[u8]) {
-    let mut i = 0;
-    while i < s.len() {
-        byte(s[i]);
-        i += 1;
+fn hex(rt: &impl Print, s: &[u8]) -> io::Result<()> {
+    for x in s {
+        byte(rt, *x)?;
     }
+    Ok(())
 }
 
 // The centre of gravity, and the file's number, length and bytes.
-pub fn shown(r: Record) -> Record {
+pub fn shown(rt: &impl Print, r: Record) -> io::Result<Record> {
     let mut out = [0u8; file::LONGEST];
     let w = file::write(r, &mut out);
-    text(b" ");
-    centre_of_gravity(r);
-    numbers(w);
-    hex(between(&out, 0, w.length));
-    r
+    text(rt, b" ")?;
+    centre_of_gravity(rt, r)?;
+    numbers(rt, w)?;
+    hex(rt, between(&out, 0, w.length))?;
+    Ok(r)
 }
 
 // Writing into the first n bytes.
@@ -47,13 +45,13 @@ fn write_first(r: Record, out: &mut [u8], n: usize) -> Written {
 }
 
 // Writing into n bytes of AA.
-pub fn into(r: Record, n: usize) -> Record {
+pub fn into(rt: &impl Print, r: Record, n: usize) -> io::Result<Record> {
     let mut out = [0xAAu8; 4096];
     let w = write_first(r, &mut out, n);
     let end = w.length;
-    numbers(w);
-    unsigned(sum(between(&out, 0, end)));
-    text(b" ");
-    unsigned(unwritten(between(&out, end, wrapping_add_usize(n, 16))));
-    r
+    numbers(rt, w)?;
+    unsigned(rt, sum(between(&out, 0, end)))?;
+    text(rt, b" ")?;
+    unsigned(rt, unwritten(between(&out, end, n.wrapping_add(16))))?;
+    Ok(r)
 }

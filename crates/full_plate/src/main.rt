@@ -1,6 +1,8 @@
 #![tactic(auto)]
 
 // The program `placard`, run on a file whose sheet gives 256 rows: 9,216 bytes of placard.
-fn main() {
-    printing::run();
+use std::io;
+
+fn main(rt: HostRuntime) -> io::Result<()> {
+    printing::run(&rt)
 }

@@ -11,7 +11,7 @@ ghost use Rattle.balance.specs.Balance.{plain, Bounded};
 ghost use Rattle.aboard.specs.Aboard.{Beside, Room};
 ghost use Rattle.limits.specs.Seats.{Seated, NoneOf};
 ghost use Rattle.line.specs.Word.{word};
-ghost use Rattle.group.specs.Numbered.{rears, waters as Numbered·waters, blanks, lines_to, blanks_to};
+ghost use Rattle.group.specs.Numbered.{rears, waters as waters_of, blanks, lines_to, blanks_to};
 ghost use Rattle.group.specs.Shared.{TermsOf, FieldsOf};
 
 use aboard::{Arms, Laden};
@@ -59,7 +59,7 @@ fn blank(x: Row) -> usize
 
 // The fields of the waters, each made once for all rear loads.
 pub fn put_waters(s: Sheet, waters: usize, fields: &mut [u64; WATERS])
-    requires { (first_number (sheet_faults s) ≡ 0) × (waters ≡ Numbered·waters s) × (length fields.old ≡ 256) }
+    requires { (first_number (sheet_faults s) ≡ 0) × (waters ≡ waters_of s) × (length fields.old ≡ 256) }
     ensures { FieldsOf s waters fields.new }
 {
     let mut water = 0;
@@ -102,7 +102,7 @@ pub fn put_group(
     fields: &[u64; WATERS],
     out: &mut [u8],
 ) -> usize
-    requires { (first_number (sheet_faults s) ≡ 0) × TermsOf s t × Bounded 1024 b × (waters ≡ Numbered·waters s) × (j < rears s) × FieldsOf s waters fields.now × (line_length * row_count s ≤ length out.old) }
+    requires { (first_number (sheet_faults s) ≡ 0) × TermsOf s t × Bounded 1024 b × (waters ≡ waters_of s) × (j < rears s) × FieldsOf s waters fields.now × (line_length * row_count s ≤ length out.old) }
     ensures { (result ≤ waters) × (result + blanks_to s t.front.seat (plain b) (j * waters) ≡ blanks_to s t.front.seat (plain b) (j * waters + waters)) × (length out.new ≡ length out.old) × ((lent : List ℕ) → length lent ≡ length out.old → out.old ≡ written lent 0 (lines_to s t.front.seat (plain b) (j * waters)) → out.new ≡ written lent 0 (lines_to s t.front.seat (plain b) (j * waters + waters))) }
 {
     let rear = j as u64 * s.rear.step;

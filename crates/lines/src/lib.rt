@@ -1,44 +1,54 @@
 #![tactic(auto)]
 
-// What the programs print, on standard output where no other place is named, and parts of what they take.
-use libc::STDOUT_FILENO;
+// What the programs print, and what they take and how they read it. `to` is standard output or standard error.
+ghost use Rattle.std.specs.Prelude.{◌≤◌, length, IfOk};
+
 use record::Record;
-use std::num::wrapping_add_u64;
+use std::io;
+use std::io::Read;
 
-pub fn text(s: &[u8]) {
-    io::write_all(STDOUT_FILENO, s);
+pub fn text(to: &impl Print, s: &[u8]) -> io::Result<()> {
+    to.write_all(s)
 }
 
-pub fn unsigned(n: u64) {
-    io::print_decimal(STDOUT_FILENO, n);
+pub fn unsigned(to: &impl Print, n: u64) -> io::Result<()> {
+    to.print(n)
 }
 
-pub fn signed(x: i64) {
-    if x < 0 {
-        text(b"-");
-        unsigned(laws::under(x) + 1);
-    } else {
-        unsigned(laws::size(x));
-    }
+pub fn signed(to: &impl Print, x: i64) -> io::Result<()> {
+    to.print(x)
 }
 
 // That something is refused, and by which number.
-pub fn refused(fd: i32, number: u64) {
-    io::write_all(fd, b"refused ");
-    io::print_decimal(fd, number);
-    io::write_all(fd, b"\n");
+pub fn refused(to: &impl Print, number: u64) -> io::Result<()> {
+    println!(to; "refused {number}")
 }
 
 // Number, total, moment and centre.
-pub fn centre_of_gravity(r: Record) {
+pub fn centre_of_gravity(to: &impl Print, r: Record) -> io::Result<()> {
     let c = r.centre_of_gravity();
-    unsigned(c.number);
-    text(b" ");
-    unsigned(c.total);
-    text(b" ");
-    signed(c.moment);
-    text(b" ");
-    signed(c.centre);
+    unsigned(to, c.number)?;
+    text(to, b" ")?;
+    unsigned(to, c.total)?;
+    text(to, b" ")?;
+    signed(to, c.moment)?;
+    text(to, b" ")?;
+    signed(to, c.centre)
+}
+
+// Reads until the buffer is full or there is no more. The answer is how many bytes were read.
+pub fn read_full(from: &mut impl Read, out: &mut [u8]) -> io::Result<usize>
+    ensures { IfOk result (λ n. n ≤ length out.new) }
+{
+    let mut at = 0;
+    for _ in 0..out.len() {
+        let n = from.read(&mut out[at..])?;
+        if n == 0 {
+            break;
+        }
+        at += n;
+    }
+    Ok(at)
 }
 
 // The bytes from one place to another, or all where there are no such places.
@@ -60,23 +70,19 @@ fn mixed(sum: u64, x: u8) -> u64 {
 // The sum of bytes.
 pub fn sum(s: &[u8]) -> u64 {
     let mut n = 0;
-    let mut i = 0;
-    while i < s.len() {
-        n = mixed(n, s[i]);
-        i += 1;
+    for x in s {
+        n = mixed(n, *x);
     }
     n
 }
 
 // How many bytes are AA, which a buffer has before it is lent.
 pub fn unwritten(s: &[u8]) -> u64 {
-    let mut n = 0;
-    let mut i = 0;
-    while i < s.len() {
-        if s[i] == 0xAA {
-            n = wrapping_add_u64(n, 1);
+    let mut n = 0u64;
+    for x in s {
+        if *x == 0xAA {
+            n = n.wrapping_add(1);
         }
-        i += 1;
     }
     n
 }

@@ -14,5 +14,5 @@ fn through_text(s: &[u8]) -> Record {
 pub fn same_again(s: &[u8]) -> bool {
     let mut out = [0u8; file::LONGEST];
     let w = file::write(through_text(s), &mut out);
-    check::same(lines::between(&out, 0, w.length), s)
+    lines::between(&out, 0, w.length) == s
 }

@@ -2,9 +2,9 @@
 // have, with their sums, and `again` where the file comes back through its text. The listing follows where it is short.
 use crate::again::same_again;
 use book::Ending;
-use libc::{STDIN_FILENO, STDOUT_FILENO};
 use lines::{between, text, unsigned};
 use record::Record;
+use std::io;
 
 // The cases come in blocks of this many bytes, each of whole cases.
 const BLOCK: usize = 16384;
@@ -14,63 +14,66 @@ const BLOCKS: usize = 28;
 // The longest listing that is printed.
 const SHORT: usize = 160;
 
-fn counted(label: &[u8], s: &[u8]) {
-    text(label);
-    unsigned(s.len() as u64);
-    text(b" ");
-    unsigned(lines::sum(s));
+fn counted(rt: &impl Print, label: &[u8], s: &[u8]) -> io::Result<()> {
+    text(rt, label)?;
+    unsigned(rt, s.len() as u64)?;
+    text(rt, b" ")?;
+    unsigned(rt, lines::sum(s))
 }
 
-fn listed(r: Record) {
+fn listed(rt: &impl Print, r: Record) -> io::Result<()> {
     let mut out = [0u8; listing::LONGEST];
     let w = listing::show(r, &mut out);
     let s = between(&out, 0, w.length);
-    counted(b" text ", s);
-    text(b"\n");
+    counted(rt, b" text ", s)?;
+    text(rt, b"\n")?;
     if s.len() <= SHORT {
-        text(s);
+        text(rt, s)?;
     }
+    Ok(())
 }
 
-fn whole(r: Record) {
+fn whole(rt: &impl Print, r: Record) -> io::Result<()> {
     let mut out = [0u8; file::LONGEST];
     let w = file::write(r, &mut out);
     let s = between(&out, 0, w.length);
-    counted(b"file ", s);
+    counted(rt, b"file ", s)?;
     if same_again(s) {
-        text(b" again");
+        text(rt, b" again")?;
     }
-    listed(r);
+    listed(rt, r)
 }
 
-fn case(s: &[u8]) {
+fn case(rt: &impl Print, s: &[u8]) -> io::Result<()> {
     let b = book::read(s);
     let log = b.log;
     let ending = b.ending;
     match ending {
-        Ending::Whole => whole(log),
-        _ => notice::ending(STDOUT_FILENO, ending),
+        Ending::Whole => whole(rt, log),
+        _ => notice::ending(rt, ending),
     }
 }
 
-fn each(s: &[u8]) {
+fn each(rt: &impl Print, s: &[u8]) -> io::Result<()> {
     let mut at = 0;
     while at < s.len() {
-        let end = bytes::scan::find(s, at, s.len(), b'~');
-        case(&s[at..end]);
+        let end = laws::find(s, at, s.len(), b'~');
+        case(rt, &s[at..end])?;
         at = language::behind(s, end);
     }
+    Ok(())
 }
 
 // The next block.
-fn block() {
+fn block(rt: &(impl Input + Print)) -> io::Result<()> {
     let mut input = [0u8; BLOCK];
-    let n = io::read_full(STDIN_FILENO, &mut input);
-    each(&input[..n]);
+    let n = lines::read_full(&mut rt.reader(), &mut input)?;
+    each(rt, &input[..n])
 }
 
-pub fn run() {
+pub fn run(rt: &(impl Input + Print)) -> io::Result<()> {
     for _ in 0..BLOCKS {
-        block();
+        block(rt)?;
     }
+    Ok(())
 }

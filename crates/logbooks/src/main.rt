@@ -5,7 +5,9 @@ mod again;
 mod cases;
 mod samples;
 
-fn main() {
-    cases::run();
-    samples::run();
+use std::io;
+
+fn main(rt: HostRuntime) -> io::Result<()> {
+    cases::run(&rt)?;
+    samples::run(&rt)
 }

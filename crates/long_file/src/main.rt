@@ -1,6 +1,8 @@
 #![tactic(auto)]
 
 // The program `placard`, run on a file with one byte more than the longest has.
-fn main() {
-    printing::run();
+use std::io;
+
+fn main(rt: HostRuntime) -> io::Result<()> {
+    printing::run(&rt)
 }

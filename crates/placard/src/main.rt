@@ -1,6 +1,8 @@
 #![tactic(auto)]
 
 // Reads a record's file on standard input and prints its placard, or `refused `, the number and a line feed.
-fn main() {
-    printing::run();
+use std::io;
+
+fn main(rt: HostRuntime) -> io::Result<()> {
+    printing::run(&rt)
 }

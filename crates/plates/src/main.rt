@@ -11,13 +11,13 @@
 // ones. Then comes the placard: its lines, or of more than twelve the first, the last and the sum of the bytes.
 mod report;
 
-use libc::STDIN_FILENO;
+use std::io;
 
 // All cases.
 const CASES: usize = 65536;
 
-fn main() {
+fn main(rt: HostRuntime) -> io::Result<()> {
     let mut input = [0u8; CASES];
-    let n = io::read_full(STDIN_FILENO, &mut input);
-    report::each(&input[..n]);
+    let n = lines::read_full(&mut rt.reader(), &mut input)?;
+    report::each(&rt, &input[..n])
 }

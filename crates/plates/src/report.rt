@@ -4,7 +4,7 @@ use paper::Placard;
 use record::{Kept, Record};
 use script::calls::played;
 use script::texts::{byte_at, digits, place_of};
-use std::num::{wrapping_add_usize, wrapping_sub_usize};
+use std::io;
 
 // The placard into the first n bytes.
 fn placard_first(r: Record, out: &mut [u8], n: usize) -> Placard {
@@ -15,63 +15,61 @@ fn placard_first(r: Record, out: &mut [u8], n: usize) -> Placard {
 }
 
 // A number behind a text.
-fn number(s: &[u8], n: u64) {
-    text(s);
-    unsigned(n);
+fn number(rt: &impl Print, s: &[u8], n: u64) -> io::Result<()> {
+    text(rt, s)?;
+    unsigned(rt, n)
 }
 
-fn lines_of(s: &[u8]) {
+fn lines_of(rt: &impl Print, s: &[u8]) -> io::Result<()> {
     if s.len() <= 432 {
-        text(s);
-        return;
+        return text(rt, s);
     }
-    text(between(s, 0, 36));
-    text(between(s, wrapping_sub_usize(s.len(), 36), s.len()));
-    number(b"sum ", sum(s));
-    text(b"\n");
+    text(rt, between(s, 0, 36))?;
+    text(rt, between(s, s.len().wrapping_sub(36), s.len()))?;
+    number(rt, b"sum ", sum(s))?;
+    text(rt, b"\n")
 }
 
 // The rest of a line of output behind its label, and the placard into n bytes.
-fn answered(k: Kept, n: usize) {
+fn answered(rt: &impl Print, k: Kept, n: usize) -> io::Result<()> {
     let mut out = [0xAAu8; 9248];
     let p = placard_first(k.log, &mut out, n);
-    number(b": ", k.number);
-    number(b"; ", p.number);
-    number(b" ", p.bytes as u64);
-    number(b" ", p.rows as u64);
-    number(b" ", p.blank as u64);
+    number(rt, b": ", k.number)?;
+    number(rt, b"; ", p.number)?;
+    number(rt, b" ", p.bytes as u64)?;
+    number(rt, b" ", p.rows as u64)?;
+    number(rt, b" ", p.blank as u64)?;
     number(
+        rt,
         b"; ",
-        unwritten(between(&out, p.bytes, wrapping_add_usize(n, 16))),
-    );
-    text(b"\n");
-    lines_of(between(&out, 0, p.bytes));
+        unwritten(between(&out, p.bytes, n.wrapping_add(16))),
+    )?;
+    text(rt, b"\n")?;
+    lines_of(rt, between(&out, 0, p.bytes))
 }
 
 // A line; the answer is the record that it leaves.
-fn tried(r: Record, line: &[u8]) -> Record {
+fn tried(rt: &impl Print, r: Record, line: &[u8]) -> io::Result<Record> {
     if byte_at(line, 0) == b'#' {
-        return r;
+        return Ok(r);
     }
     let space = place_of(line, b' ');
     let colon = place_of(line, b':');
-    let k = played(r, between(line, wrapping_add_usize(colon, 2), line.len()));
-    text(between(line, wrapping_add_usize(space, 1), colon));
-    answered(k, digits(line, 0) as usize);
-    k.log
+    let k = played(r, between(line, colon.wrapping_add(2), line.len()));
+    text(rt, between(line, space.wrapping_add(1), colon))?;
+    answered(rt, k, digits(line, 0) as usize)?;
+    Ok(k.log)
 }
 
 // The lines in turn, each with its line feed.
-pub fn each(s: &[u8]) {
+pub fn each(rt: &impl Print, s: &[u8]) -> io::Result<()> {
     let mut log = Record::fresh();
     let mut from = 0;
-    let mut i = 0;
-    while i < s.len() {
-        let x = s[i];
-        i += 1;
-        if x == b'\n' {
-            log = tried(log, between(s, from, i));
-            from = i;
+    for i in 0..s.len() {
+        if s[i] == b'\n' {
+            log = tried(rt, log, between(s, from, i + 1))?;
+            from = i + 1;
         }
     }
+    Ok(())
 }

@@ -36,14 +36,12 @@ fn called(r: Record, call: &[u8]) -> Kept {
 pub fn played(r: Record, calls: &[u8]) -> Kept {
     let mut k = Kept { number: 0, log: r };
     let mut from = 0;
-    let mut i = 0;
-    while i < calls.len() {
+    for i in 0..calls.len() {
         let x = calls[i];
         if x == b',' || x == b'\n' {
             k = called(k.log, between(calls, from, i));
             from = i + 1;
         }
-        i += 1;
     }
     k
 }

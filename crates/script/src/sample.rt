@@ -8,14 +8,12 @@ const FIELDS: usize = 15;
 // The fields with the numbers of a text: each stands behind its field's letter.
 fn replaced(fields: [u64; FIELDS], letters: &[u8], text: &[u8]) -> [u64; FIELDS] {
     let mut now = fields;
-    let mut i = 0;
-    while i < text.len() {
+    for i in 0..text.len() {
         let x = text[i];
-        i += 1;
         if b'A' <= x {
             let at = place_of(letters, x);
             if at < FIELDS {
-                now[at] = number(text, i);
+                now[at] = number(text, i + 1);
             }
         }
     }

@@ -1,8 +1,6 @@
 // Parts of a text, and the numbers in it.
 ghost use Rattle.std.specs.Prelude.{◌<◌};
 
-use std::num::{wrapping_add_usize, wrapping_sub_u64};
-
 // The byte at a place, or 0 behind the end.
 pub fn byte_at(s: &[u8], i: usize) -> u8 {
     if i < s.len() {
@@ -13,14 +11,12 @@ pub fn byte_at(s: &[u8], i: usize) -> u8 {
 
 // Where a byte stands first, or the length.
 pub fn place_of(s: &[u8], x: u8) -> usize {
-    let mut i = 0;
-    while i < s.len() {
+    for i in 0..s.len() {
         if s[i] == x {
             return i;
         }
-        i += 1;
     }
-    i
+    s.len()
 }
 
 fn is_digit(x: u8) -> bool {
@@ -35,14 +31,12 @@ fn with_digit(n: u64, x: u8) -> u64 {
 // The number of the digits from a place on.
 pub fn digits(s: &[u8], from: usize) -> u64 {
     let mut n = 0;
-    let mut i = from;
-    while i < s.len() {
+    for i in from..s.len() {
         let x = s[i];
         if !is_digit(x) {
             return n;
         }
         n = with_digit(n, x);
-        i += 1;
     }
     n
 }
@@ -56,7 +50,7 @@ pub fn number(s: &[u8], from: usize) -> u64 {
     match sign {
         b'<' => HALF,
         b'>' => HALF - 1,
-        b'-' => wrapping_sub_u64(0, digits(s, wrapping_add_usize(from, 1))),
+        b'-' => 0u64.wrapping_sub(digits(s, from.wrapping_add(1))),
         _ => digits(s, from),
     }
 }
@@ -84,13 +78,11 @@ fn byte(high: u8, low: u8) -> u8 {
 // The bytes that digits of sixteen spell, two for each. The answer is how many.
 pub fn spelled(digits: &[u8], out: &mut [u8]) -> usize {
     let pairs = digits.len() / 2;
-    let mut n = 0;
-    while n < pairs {
+    for n in 0..pairs {
         if out.len() <= n {
             return n;
         }
         out[n] = byte(digits[2 * n], digits[2 * n + 1]);
-        n += 1;
     }
-    n
+    pairs
 }

@@ -2,27 +2,25 @@
 
 // Reads a record's file on standard input and writes its listing on standard output: a logbook of its entries. A file that
 // is none gets `refused 12` on standard error.
-use libc::{STDERR_FILENO, STDIN_FILENO};
 use record::Record;
+use std::io;
 
-fn show(r: Record) {
+fn show(rt: &impl Print, r: Record) -> io::Result<()> {
     let mut out = [0u8; listing::LONGEST];
     let w = listing::show(r, &mut out);
-    lines::text(lines::between(&out, 0, w.length));
+    lines::text(rt, lines::between(&out, 0, w.length))
 }
 
 // The buffer has one byte more than a file may have, which tells a longer input.
-fn main() {
+fn main(rt: HostRuntime) -> io::Result<()> {
     let mut input = [0u8; file::LONGEST + 1];
-    let n = io::read_full(STDIN_FILENO, &mut input);
+    let n = lines::read_full(&mut rt.reader(), &mut input)?;
     if file::LONGEST < n {
-        lines::refused(STDERR_FILENO, 12);
-        return;
+        return lines::refused(&rt.stderr(), 12);
     }
     let k = file::read(Record::fresh(), &input[..n]);
     if k.number != 0 {
-        lines::refused(STDERR_FILENO, k.number);
-        return;
+        return lines::refused(&rt.stderr(), k.number);
     }
-    show(k.log);
+    show(&rt, k.log)
 }

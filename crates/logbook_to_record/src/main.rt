@@ -1,0 +1,32 @@
+#![tactic(auto)]
+
+// Reads a logbook on standard input and writes its record's file on standard output. Where a line is refused or not
+// understood it writes no file, and says so in a line on standard error.
+use record::Record;
+use std::io;
+
+// The longest logbook.
+const TEXT: usize = 65536;
+
+fn write(rt: &impl Print, r: Record) -> io::Result<()> {
+    let mut out = [0u8; file::LONGEST];
+    let w = file::write(r, &mut out);
+    lines::text(rt, lines::between(&out, 0, w.length))
+}
+
+// The buffer has one byte more than a logbook may have, which tells a longer input.
+fn main(rt: HostRuntime) -> io::Result<()> {
+    let mut input = [0u8; TEXT + 1];
+    let n = lines::read_full(&mut rt.reader(), &mut input)?;
+    if TEXT < n {
+        return notice::too_long(&rt.stderr(), TEXT);
+    }
+    let b = book::read(&input[..n]);
+    let log = b.log;
+    let ending = b.ending;
+    notice::ending(&rt.stderr(), ending)?;
+    if let book::Ending::Whole = ending {
+        write(&rt, log)?;
+    }
+    Ok(())
+}
