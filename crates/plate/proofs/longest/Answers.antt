@@ -4,13 +4,9 @@ use native.Mathlib.Omega.{arith}
 use Rattle.paper.specs.Placard.{text_length}
 use Rattle.sheet.proofs.Accepted.{accepted-sheet}
 use Rattle.plate.proofs.Lengths.{largest, largest-accepted, largest-length}
-use Rattle.plate.proofs.longest.Statement.{statement}
-use Rattle.plate.proofs.longest.Tie as tie
+use Rattle.plate.proofs.longest.Goals as goal
 
-returns : tie.Need-returns
+pub returns : goal.returns
 unfolding text_length
 returns c =
     record { most = λ s a. omega (arith, (accepted-sheet s a).steps.rows); reached = (largest, largest-accepted, largest-length) }
-
-pub longest-spec : {M : Type 1} → statement M
-longest-spec = tie.close (tie.spec returns)
