@@ -19,13 +19,12 @@ returns-in_default c = centre_twelve _ (rw c.in_default.is at c.held.ensures)
 
 pub answer-requires : goal.answer-requires
 answer-requires c =
-    let buffer : List ℕ = c.args.buffer.now in
-    let held : Finds (held_in buffer) (File c.found-1.given.0.0) = rw c.found-1.given.1 at c.held.ensures in
+    let held : Finds (held_in c.args.buffer.now) (File c.in-File.found) = rw c.in-File.is at c.held.ensures in
     let f = held in
-    grown (length f.0) 1024 c.found-1.given.0.0.standing (omega (arith, at_most_64 f.0 (held_accepted (buffer) f.0 f.1))) f.2.sound
+    grown (length f.0) 1024 c.in-File.found.standing (omega (arith, at_most_64 f.0 (held_accepted c.args.buffer.now f.0 f.1))) f.2.sound
 
 pub returns : goal.returns
 returns c =
-    let held : Finds (held_in buffer) (File c.found-1.given.0.0) = rw c.found-1.given.1 at c.held.ensures in
+    let held : Finds (held_in c.args.buffer.now) (File c.in-File.found) = rw c.in-File.is at c.held.ensures in
     let f = held in
     c.answer.ensures f.0 f.2.stands ∙ centre_held _ f.0 f.1

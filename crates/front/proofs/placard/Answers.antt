@@ -21,16 +21,15 @@ returns-in_default c = placard_twelve _ _ (rw c.in_default.is at c.held.ensures)
 
 pub answer-requires : goal.answer-requires
 answer-requires c =
-    let buffer : List ℕ = c.args.buffer.now in
-    let held : Finds (held_in buffer) (File c.found-1.given.0.0) = rw c.found-1.given.1 at c.held.ensures in
-        let f = held in
-    let fine = held_accepted (buffer) f.0 f.1 in (
-      grown (length f.0) 1024 c.found-1.given.0.0.standing (omega (arith, at_most_64 f.0 fine)) f.2.sound,
+    let held : Finds (held_in c.args.buffer.now) (File c.in-File.found) = rw c.in-File.is at c.held.ensures in
+    let f = held in
+    let fine = held_accepted c.args.buffer.now f.0 f.1 in (
+      grown (length f.0) 1024 c.in-File.found.standing (omega (arith, at_most_64 f.0 fine)) f.2.sound,
       λ s g e. force_accepted f.0 s g fine (sym f.2.sheet ∙ e),
     )
 
 pub returns : goal.returns
 returns c =
-    let held : Finds (held_in buffer) (File c.found-1.given.0.0) = rw c.found-1.given.1 at c.held.ensures in
-        let f = held in
+    let held : Finds (held_in c.args.buffer.now) (File c.in-File.found) = rw c.in-File.is at c.held.ensures in
+    let f = held in
     placard_held _ f.0 _ _ _ f.1 (c.answer.ensures f.0 f.2.stands f.2.sheet)
