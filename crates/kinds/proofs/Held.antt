@@ -11,7 +11,7 @@ use Rattle.paper.specs.File.{signed_at, plain_at}
 
 module _ (v : List ℤ) (i : ℕ) where
   pub held : mag (signed_at v i) < 2 ^ hbits w64 → to_z w64 (of_z w64 (signed_at v i)) ≡ signed_at v i
-  held h = to_z-of_z (record { sfits = h })
+  held h = to_z-of_z {w = w64} (record { sfits = h })
 
   pub plain_held : (r : ℕ) → mag (signed_at v i) < 2 ^ hbits w64 → r ≡ nat_abs (to_z w64 (of_z w64 (signed_at v i))) → r ≡ plain_at v i
   plain_held r h e = rw (held h) at e

@@ -3,7 +3,7 @@
 // The logbook's language: what a line says.
 ghost use Rattle.std.specs.Prelude.{◌≡◌, suc, ◌≤◌, eqb, length, get_or, drop};
 ghost use Rattle.laws.specs.Equal.{eq_list};
-ghost use Rattle.language.specs.Lines.{kind_named, values_from, candidate as Lines·candidate, says};
+ghost use Rattle.language.specs.Lines.{kind_named, values_from, candidate, says};
 
 use layout::FIELDS;
 use paper::Entry;
@@ -55,7 +55,7 @@ fn values_at(s: &[u8], from: usize) -> [i64; FIELDS]
     let mut at = from;
     let mut i = 0;
     while i < FIELDS {
-        let end = bytes::scan::find(s, at, s.len(), b' ');
+        let end = laws::find(s, at, s.len(), b' ');
         v[i] = numerals::number_of(&s[at..end]);
         at = behind(s, end);
         i += 1;
@@ -65,9 +65,9 @@ fn values_at(s: &[u8], from: usize) -> [i64; FIELDS]
 
 // The only entry whose text a line can be.
 fn candidate(s: &[u8]) -> Entry
-    ensures { result ≡ Lines·candidate s.now }
+    ensures { result ≡ candidate s.now }
 {
-    let end = bytes::scan::find(s, 0, s.len(), b' ');
+    let end = laws::find(s, 0, s.len(), b' ');
     let v = values_at(s, behind(s, end));
     let kind = kind_named(letter_at(s, 0), letter_at(s, 1));
     values::entry_of(kind, v)
@@ -77,7 +77,7 @@ fn candidate(s: &[u8]) -> Entry
 fn same(s: &[u8], t: &[u8]) -> bool
     ensures { result ≡ eq_list eqb s.now t.now }
 {
-    check::same(s, t)
+    s == t
 }
 
 // What a line says. It is an entry's where writing that entry gives the line again.

@@ -15,7 +15,7 @@ pub fn put_bytes(out: &mut [u8], at: usize, s: &[u8]) -> usize
     requires { at + length s.now ≤ length out.old }
     ensures { (result ≡ at + length s.now) × (out.new ≡ written out.old at s.now) }
 {
-    at + bytes::copy(s, &mut out[at..])
+    at + laws::copy(s, &mut out[at..])
 }
 
 fn put_name(out: &mut [u8], at: usize, kind: u8) -> usize
