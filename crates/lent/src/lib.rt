@@ -6,7 +6,7 @@
 ghost use Rattle.std.specs.Prelude.{◌≡◌, List, [], ◌∷◌, ◌++◌, ℕ, ◌≤◌, ◌<◌, length, take};
 ghost use Rattle.paper.specs.declared.Entry.{Entry};
 ghost use Rattle.paper.specs.File.{file_as};
-ghost use Rattle.paper.specs.Journal.{call_of, undo as Journal·undo};
+ghost use Rattle.paper.specs.Journal.{call_of, undo as undo_call};
 ghost use Rattle.lent.specs.Lent.{lent_file, lent_call, lent_read};
 
 use header::{HEADER, VERSION};
@@ -53,7 +53,7 @@ pub fn add(buffer: &mut [u8], e: Entry) -> u64
 
 // Taking back: the header says one entry less, and its bytes are free.
 pub fn undo(buffer: &mut [u8]) -> u64
-    ensures { (result, buffer.new) ≡ lent_call Journal·undo buffer.old }
+    ensures { (result, buffer.new) ≡ lent_call undo_call buffer.old }
 {
     let Stored::File(found) = front::held(buffer) else {
         return 12;
@@ -75,7 +75,7 @@ pub fn read(buffer: &mut [u8], file: &[u8]) -> u64
     if buffer.len() < file.len() {
         return 11;
     }
-    bytes::copy(file, buffer);
+    laws::copy(file, buffer);
     buffer[4] = VERSION;
     0
 }
