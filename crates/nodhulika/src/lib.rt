@@ -1,7 +1,8 @@
 #![tactic(auto)]
 
 // The library for C and Rust: functions on numbers and byte slices. A record is lent as its file at the front of a buffer.
-// Each function answers by the paper's number of refusal, 0 where there is none; include/nodhulika.h is its header.
+// Each function answers by the paper's number of refusal, 0 where there is none; include/nodhulika.h is its header, and
+// nodhulika_c exports them.
 ghost use Rattle.std.specs.Prelude.{◌≡◌, [], ◌++◌, ◌≤◌, length};
 ghost use Rattle.laws.specs.Written.{written};
 ghost use Rattle.paper.specs.File.{bytes_of};
@@ -17,40 +18,28 @@ use words::long_of;
 const ANSWER: usize = 24;
 
 // A fresh record at the front of the buffer.
-#[unsafe(no_mangle)]
-pub extern "C" fn nodhulika_fresh(buffer: &mut [u8]) -> u64
+pub fn nodhulika_fresh(buffer: &mut [u8]) -> u64
     ensures { (result, buffer.new) ≡ lent_file [] buffer.old }
 {
     lent::fresh(buffer)
 }
 
 // Whether the buffer holds a record.
-#[unsafe(no_mangle)]
-pub extern "C" fn nodhulika_check(buffer: &[u8]) -> u64
+pub fn nodhulika_check(buffer: &[u8]) -> u64
     ensures { result ≡ check_number buffer.now }
 {
     front::check(buffer)
 }
 
 // A weighing.
-#[unsafe(no_mangle)]
-pub extern "C" fn nodhulika_weigh(
-    buffer: &mut [u8],
-    m: u64,
-    p: u64,
-    q: u64,
-    a: i64,
-    b: u64,
-    n: u64,
-) -> u64
+pub fn nodhulika_weigh(buffer: &mut [u8], m: u64, p: u64, q: u64, a: i64, b: u64, n: u64) -> u64
     ensures { (result, buffer.new) ≡ lent_call (journal.weigh (record { m = m; p = p; q = q; a = a; b = b; n = n })) buffer.old }
 {
     lent::add(buffer, weighing_of(m, p, q, a, b, n))
 }
 
 // A paired weighing.
-#[unsafe(no_mangle)]
-pub extern "C" fn nodhulika_weigh_paired(
+pub fn nodhulika_weigh_paired(
     buffer: &mut [u8],
     m: u64,
     p: u64,
@@ -67,8 +56,7 @@ pub extern "C" fn nodhulika_weigh_paired(
 }
 
 // A data sheet.
-#[unsafe(no_mangle)]
-pub extern "C" fn nodhulika_sheet(
+pub fn nodhulika_sheet(
     buffer: &mut [u8],
     fwd: i64,
     aft: i64,
@@ -109,32 +97,28 @@ pub extern "C" fn nodhulika_sheet(
 }
 
 // A change.
-#[unsafe(no_mangle)]
-pub extern "C" fn nodhulika_change(buffer: &mut [u8], c: i64, arm: i64, flag: u64) -> u64
+pub fn nodhulika_change(buffer: &mut [u8], c: i64, arm: i64, flag: u64) -> u64
     ensures { (result, buffer.new) ≡ lent_call (journal.change (record { c = c; arm = arm; flag = flag })) buffer.old }
 {
     lent::add(buffer, change_of(c, arm, flag))
 }
 
 // A seat entry.
-#[unsafe(no_mangle)]
-pub extern "C" fn nodhulika_seat(buffer: &mut [u8], lower: i64, higher: i64) -> u64
+pub fn nodhulika_seat(buffer: &mut [u8], lower: i64, higher: i64) -> u64
     ensures { (result, buffer.new) ≡ lent_call (journal.seat (record { lower = lower; higher = higher })) buffer.old }
 {
     lent::add(buffer, seat_of(lower, higher))
 }
 
 // Taking back.
-#[unsafe(no_mangle)]
-pub extern "C" fn nodhulika_undo(buffer: &mut [u8]) -> u64
+pub fn nodhulika_undo(buffer: &mut [u8]) -> u64
     ensures { (result, buffer.new) ≡ lent_call journal.undo buffer.old }
 {
     lent::undo(buffer)
 }
 
 // Reading back: a file in the place of what the buffer holds.
-#[unsafe(no_mangle)]
-pub extern "C" fn nodhulika_read(buffer: &mut [u8], file: &[u8]) -> u64
+pub fn nodhulika_read(buffer: &mut [u8], file: &[u8]) -> u64
     ensures { (result, buffer.new) ≡ lent_read file.now buffer.old }
 {
     lent::read(buffer, file)
@@ -151,8 +135,7 @@ fn put_words(out: &mut [u8], x: u64, y: u64, z: u64)
 }
 
 // Total and moment, in half grams, and empty centre of gravity, into `answer`.
-#[unsafe(no_mangle)]
-pub extern "C" fn nodhulika_centre(buffer: &[u8], answer: &mut [u8]) -> u64
+pub fn nodhulika_centre(buffer: &[u8], answer: &mut [u8]) -> u64
     ensures { (result, answer.new) ≡ centre_into (centre_for (held_in buffer.now)) answer.old }
 {
     let c = front::centre(buffer);
@@ -167,8 +150,7 @@ pub extern "C" fn nodhulika_centre(buffer: &[u8], answer: &mut [u8]) -> u64
 }
 
 // The placard, into `out`, and its bytes, rows and blank rows, into `answer`.
-#[unsafe(no_mangle)]
-pub extern "C" fn nodhulika_placard(buffer: &[u8], out: &mut [u8], answer: &mut [u8]) -> u64
+pub fn nodhulika_placard(buffer: &[u8], out: &mut [u8], answer: &mut [u8]) -> u64
     ensures { (result, out.new, answer.new) ≡ placard_into (held_in buffer.now) out.old answer.old }
 {
     if answer.len() < ANSWER {

@@ -4,7 +4,7 @@
 ghost use Rattle.std.specs.Prelude.{◌≡◌, ◌+◌, ◌≤◌, ◌<◌, ◌^◌, length, take};
 ghost use Rattle.laws.specs.Written.{written};
 ghost use Rattle.paper.specs.Placard.{digits};
-ghost use Rattle.numerals.specs.Numerals.{places as Numerals·places, decimal, numeral, digit_of, size_of, most_digits, value_of};
+ghost use Rattle.numerals.specs.Numerals.{places as places_of, decimal, numeral, digit_of, size_of, most_digits, value_of};
 
 // The most digits that a number has when it is read.
 const DIGITS: usize = 18;
@@ -25,7 +25,7 @@ pub fn put_digits(out: &mut [u8], at: usize, k: usize, n: u64)
 
 // How many digits a number takes.
 fn places(n: u64) -> usize
-    ensures { result ≡ Numerals·places n }
+    ensures { result ≡ places_of n }
 {
     let mut k = 1;
     let mut rest = n;

@@ -5,7 +5,7 @@ ghost use Rattle.std.specs.Prelude.{◌≡◌};
 ghost use Rattle.std.proofs.Math.Option.{none, map};
 ghost use Rattle.paper.specs.Record.{ends_of};
 ghost use Rattle.paper.specs.Refusals.{bad_ends};
-ghost use Rattle.seat.specs.InForce.{found, moved as InForce·moved, after};
+ghost use Rattle.seat.specs.InForce.{found, moved as moved_ends, after};
 
 use paper::{Arm, Entry, Seat, Sheet};
 
@@ -41,7 +41,7 @@ pub fn fixed(s: Sheet) -> Seat
 
 // The sheet in force with the ends of a seat entry.
 pub fn moved(last: InForce, f: Seat) -> InForce
-    ensures { found result ≡ map (InForce·moved f) (found last) }
+    ensures { found result ≡ map (moved_ends f) (found last) }
 {
     let InForce::Found(s, _) = last else {
         return InForce::Nothing;

@@ -1,0 +1,11 @@
+-- `nodhulika::nodhulika_change` meets its contract: it is what `lent::add` says of the change that the numbers make. Assumes nothing.
+use borrow.Author.Rules.{rules}
+use mir.Facts.{to_z-of_z}
+use Rattle.paper.specs.Journal.{call_of}
+use Rattle.nodhulika.proofs.nodhulika_change.Goals as goal
+
+pub returns : goal.returns
+unfolding call_of
+returns c =
+    let made = rw (to_z-of_z c.ranges.c, to_z-of_z c.ranges.arm) at c.change_of.ensures in
+    rw made at c.add.ensures

@@ -1,0 +1,150 @@
+#![tactic(auto)]
+
+// The library's functions as C calls them: each states the contract of the function of the same name in nodhulika, which it calls.
+ghost use Rattle.std.specs.Prelude.{◌≡◌, [], ◌++◌, ◌≤◌, length};
+ghost use Rattle.laws.specs.Written.{written};
+ghost use Rattle.paper.specs.File.{bytes_of};
+ghost use Rattle.paper.specs.Journal as journal;
+ghost use Rattle.front.specs.Front.{held_in, check_number, centre_for};
+ghost use Rattle.lent.specs.Lent.{lent_file, lent_call, lent_read};
+ghost use Rattle.nodhulika.specs.Exported.{centre_into, placard_into};
+
+// A fresh record at the front of the buffer.
+#[unsafe(no_mangle)]
+pub extern "C" fn nodhulika_fresh(buffer: &mut [u8]) -> u64
+    ensures { (result, buffer.new) ≡ lent_file [] buffer.old }
+{
+    nodhulika::nodhulika_fresh(buffer)
+}
+
+// Whether the buffer holds a record.
+#[unsafe(no_mangle)]
+pub extern "C" fn nodhulika_check(buffer: &[u8]) -> u64
+    ensures { result ≡ check_number buffer.now }
+{
+    nodhulika::nodhulika_check(buffer)
+}
+
+// A weighing.
+#[unsafe(no_mangle)]
+pub extern "C" fn nodhulika_weigh(
+    buffer: &mut [u8],
+    m: u64,
+    p: u64,
+    q: u64,
+    a: i64,
+    b: u64,
+    n: u64,
+) -> u64
+    ensures { (result, buffer.new) ≡ lent_call (journal.weigh (record { m = m; p = p; q = q; a = a; b = b; n = n })) buffer.old }
+{
+    nodhulika::nodhulika_weigh(buffer, m, p, q, a, b, n)
+}
+
+// A paired weighing.
+#[unsafe(no_mangle)]
+pub extern "C" fn nodhulika_weigh_paired(
+    buffer: &mut [u8],
+    m: u64,
+    p: u64,
+    q: u64,
+    p2: u64,
+    q2: u64,
+    a: i64,
+    b: u64,
+    n: u64,
+) -> u64
+    ensures { (result, buffer.new) ≡ lent_call (journal.pair (record { m = m; p = p; q = q; p2 = p2; q2 = q2; a = a; b = b; n = n })) buffer.old }
+{
+    nodhulika::nodhulika_weigh_paired(buffer, m, p, q, p2, q2, a, b, n)
+}
+
+// A data sheet.
+#[unsafe(no_mangle)]
+pub extern "C" fn nodhulika_sheet(
+    buffer: &mut [u8],
+    fwd: i64,
+    aft: i64,
+    dry: u64,
+    wet: u64,
+    nlp: u64,
+    front_arm: i64,
+    front_least: u64,
+    front_most: u64,
+    front_step: u64,
+    rear_arm: i64,
+    rear_most: u64,
+    rear_step: u64,
+    water_arm: i64,
+    water_most: u64,
+    water_step: u64,
+) -> u64
+    ensures { (result, buffer.new) ≡ lent_call (journal.install (record { fwd = fwd; aft = aft; dry = dry; wet = wet; nlp = nlp; front = record { arm = front_arm; most = front_most; step = front_step }; least = front_least; rear = record { arm = rear_arm; most = rear_most; step = rear_step }; water = record { arm = water_arm; most = water_most; step = water_step } })) buffer.old }
+{
+    nodhulika::nodhulika_sheet(
+        buffer,
+        fwd,
+        aft,
+        dry,
+        wet,
+        nlp,
+        front_arm,
+        front_least,
+        front_most,
+        front_step,
+        rear_arm,
+        rear_most,
+        rear_step,
+        water_arm,
+        water_most,
+        water_step,
+    )
+}
+
+// A change.
+#[unsafe(no_mangle)]
+pub extern "C" fn nodhulika_change(buffer: &mut [u8], c: i64, arm: i64, flag: u64) -> u64
+    ensures { (result, buffer.new) ≡ lent_call (journal.change (record { c = c; arm = arm; flag = flag })) buffer.old }
+{
+    nodhulika::nodhulika_change(buffer, c, arm, flag)
+}
+
+// A seat entry.
+#[unsafe(no_mangle)]
+pub extern "C" fn nodhulika_seat(buffer: &mut [u8], lower: i64, higher: i64) -> u64
+    ensures { (result, buffer.new) ≡ lent_call (journal.seat (record { lower = lower; higher = higher })) buffer.old }
+{
+    nodhulika::nodhulika_seat(buffer, lower, higher)
+}
+
+// Taking back.
+#[unsafe(no_mangle)]
+pub extern "C" fn nodhulika_undo(buffer: &mut [u8]) -> u64
+    ensures { (result, buffer.new) ≡ lent_call journal.undo buffer.old }
+{
+    nodhulika::nodhulika_undo(buffer)
+}
+
+// Reading back: a file in the place of what the buffer holds.
+#[unsafe(no_mangle)]
+pub extern "C" fn nodhulika_read(buffer: &mut [u8], file: &[u8]) -> u64
+    ensures { (result, buffer.new) ≡ lent_read file.now buffer.old }
+{
+    nodhulika::nodhulika_read(buffer, file)
+}
+
+// Total and moment, in half grams, and empty centre of gravity, into `answer`.
+#[unsafe(no_mangle)]
+pub extern "C" fn nodhulika_centre(buffer: &[u8], answer: &mut [u8]) -> u64
+    ensures { (result, answer.new) ≡ centre_into (centre_for (held_in buffer.now)) answer.old }
+{
+    nodhulika::nodhulika_centre(buffer, answer)
+}
+
+// The placard, into `out`, and its bytes, rows and blank rows, into `answer`.
+#[unsafe(no_mangle)]
+pub extern "C" fn nodhulika_placard(buffer: &[u8], out: &mut [u8], answer: &mut [u8]) -> u64
+    ensures { (result, out.new, answer.new) ≡ placard_into (held_in buffer.now) out.old answer.old }
+{
+    nodhulika::nodhulika_placard(buffer, out, answer)
+}
