@@ -50,7 +50,7 @@ use Rattle.claim.specs.Buffers.{Holds, Leaves, fresh_leaves, call_leaves, read_l
 use Rattle.claim.specs.Calls.{journal-more, numbers_more}
 use Rattle.claim.specs.Endings.{Ending, refused, printed, ending}
 use Rattle.claim.specs.Demand3.{Demand3, demanded}
-use Rattle.claim.specs.RecordCalls.{slice_of}
+use Rattle.claim.specs.RecordCalls.{slice_of, buffer_of}
 
 -- the arguments of a call behind its buffer, which it leaves as they are
 abbrev pub weighing_args : Weighing → ℕ × (ℕ × (ℕ × (ℤ × (ℕ × (ℕ × Unit {0})))))
@@ -73,21 +73,21 @@ seat_args f = (f.lower, (f.higher, tt))
 -- that each answered. A fresh record comes first, on any buffer that has room for it; each later call gets the buffer as it was
 -- left. Refused calls are calls like the others.
 pub data Trace : ℕ → List Call → List ℕ → List ℕ → Type 0 where
-  from_fresh : (κs : _) (o o' : Bor (List ℕ)) → fresh.Post κs (o, tt) 0 (o', tt) → Trace (length o.now) [] o'.now []
+  from_fresh : (κs : _) (o o' : MutBor (List ℕ)) → fresh.Post κs (o, tt) 0 (o', tt) → Trace (length o.now) [] o'.now []
   then_weigh : {n : ℕ} {calls : List Call} {buffer answers : List ℕ} → Trace n calls buffer answers
-      → (w : Weighing) (κs : _) (o o' : Bor (List ℕ)) (k : ℕ) → o.now ≡ buffer → weigh.Post κs (o, weighing_args w) k (o', weighing_args w) → Trace n (calls ++ journal.weigh w ∷ []) o'.now (answers ++ k ∷ [])
+      → (w : Weighing) (κs : _) (o o' : MutBor (List ℕ)) (k : ℕ) → o.now ≡ buffer → weigh.Post κs (o, weighing_args w) k (o', weighing_args w) → Trace n (calls ++ journal.weigh w ∷ []) o'.now (answers ++ k ∷ [])
   then_pair : {n : ℕ} {calls : List Call} {buffer answers : List ℕ} → Trace n calls buffer answers
-      → (x : Paired) (κs : _) (o o' : Bor (List ℕ)) (k : ℕ) → o.now ≡ buffer → pair.Post κs (o, paired_args x) k (o', paired_args x) → Trace n (calls ++ journal.pair x ∷ []) o'.now (answers ++ k ∷ [])
+      → (x : Paired) (κs : _) (o o' : MutBor (List ℕ)) (k : ℕ) → o.now ≡ buffer → pair.Post κs (o, paired_args x) k (o', paired_args x) → Trace n (calls ++ journal.pair x ∷ []) o'.now (answers ++ k ∷ [])
   then_sheet : {n : ℕ} {calls : List Call} {buffer answers : List ℕ} → Trace n calls buffer answers
-      → (s : Sheet) (κs : _) (o o' : Bor (List ℕ)) (k : ℕ) → o.now ≡ buffer → sheet.Post κs (o, sheet_args s) k (o', sheet_args s) → Trace n (calls ++ journal.install s ∷ []) o'.now (answers ++ k ∷ [])
+      → (s : Sheet) (κs : _) (o o' : MutBor (List ℕ)) (k : ℕ) → o.now ≡ buffer → sheet.Post κs (o, sheet_args s) k (o', sheet_args s) → Trace n (calls ++ journal.install s ∷ []) o'.now (answers ++ k ∷ [])
   then_change : {n : ℕ} {calls : List Call} {buffer answers : List ℕ} → Trace n calls buffer answers
-      → (x : Change) (κs : _) (o o' : Bor (List ℕ)) (k : ℕ) → o.now ≡ buffer → change.Post κs (o, change_args x) k (o', change_args x) → Trace n (calls ++ journal.change x ∷ []) o'.now (answers ++ k ∷ [])
+      → (x : Change) (κs : _) (o o' : MutBor (List ℕ)) (k : ℕ) → o.now ≡ buffer → change.Post κs (o, change_args x) k (o', change_args x) → Trace n (calls ++ journal.change x ∷ []) o'.now (answers ++ k ∷ [])
   then_seat : {n : ℕ} {calls : List Call} {buffer answers : List ℕ} → Trace n calls buffer answers
-      → (f : Seat) (κs : _) (o o' : Bor (List ℕ)) (k : ℕ) → o.now ≡ buffer → seat.Post κs (o, seat_args f) k (o', seat_args f) → Trace n (calls ++ journal.seat f ∷ []) o'.now (answers ++ k ∷ [])
+      → (f : Seat) (κs : _) (o o' : MutBor (List ℕ)) (k : ℕ) → o.now ≡ buffer → seat.Post κs (o, seat_args f) k (o', seat_args f) → Trace n (calls ++ journal.seat f ∷ []) o'.now (answers ++ k ∷ [])
   then_undo : {n : ℕ} {calls : List Call} {buffer answers : List ℕ} → Trace n calls buffer answers
-      → (κs : _) (o o' : Bor (List ℕ)) (k : ℕ) → o.now ≡ buffer → undo.Post κs (o, tt) k (o', tt) → Trace n (calls ++ journal.undo ∷ []) o'.now (answers ++ k ∷ [])
+      → (κs : _) (o o' : MutBor (List ℕ)) (k : ℕ) → o.now ≡ buffer → undo.Post κs (o, tt) k (o', tt) → Trace n (calls ++ journal.undo ∷ []) o'.now (answers ++ k ∷ [])
   then_read : {n : ℕ} {calls : List Call} {buffer answers : List ℕ} → Trace n calls buffer answers
-      → (κs : _) (o o' i i' : Bor (List ℕ)) (k : ℕ) → o.now ≡ buffer → read.Post κs (o, (i, tt)) k (o', (i', tt)) → Trace n (calls ++ journal.read i.now ∷ []) o'.now (answers ++ k ∷ [])
+      → (κs : _) (o o' : MutBor (List ℕ)) (i i' : Bor (List ℕ)) (k : ℕ) → o.now ≡ buffer → read.Post κs (o, (i, tt)) k (o', (i', tt)) → Trace n (calls ++ journal.read i.now ∷ []) o'.now (answers ++ k ∷ [])
 
 -- ---- what such a list leaves
 
@@ -185,7 +185,7 @@ module _ (n : ℕ) (calls : List Call) (buffer answers : List ℕ) (f : Follows 
 
 -- For every list of calls, however it ran, and every placard call after it, on buffers of any length and content.
 pub demand_3 : {n : ℕ} {calls : List Call} {buffer answers : List ℕ} → Trace n calls buffer answers
-    → (κs : _) (i i' o o' c c' : MutBor (List ℕ)) (k : ℕ) → i.now ≡ buffer → placard.Post κs (i, (o, (c, tt))) k (i', (o', (c', tt)))
+    → (κs : _) (i i' : Bor (List ℕ)) (o o' c c' : MutBor (List ℕ)) (k : ℕ) → i.now ≡ buffer → placard.Post κs (i, (o, (c, tt))) k (i', (o', (c', tt)))
     → LibraryDemand3 n calls answers o.now c.now k o'.now c'.now
 demand_3 {n} {calls} {buffer} {answers} t κs i i' o o' c c' k b call =
     let f = follows t in
@@ -198,12 +198,12 @@ pub record Run (calls : List Call) (first lent counts : List ℕ) : Type 0 where
   pub buffer : Bor (List ℕ)
   pub answers : List ℕ
   pub trace : Trace (length first) calls buffer.now answers
-  pub out : Bor (List ℕ)
+  pub out : MutBor (List ℕ)
   pub as_lent : out.now ≡ lent
-  pub counted : Bor (List ℕ)
+  pub counted : MutBor (List ℕ)
   pub counts_lent : counted.now ≡ counts
-  pub out_left : Bor (List ℕ)
-  pub counts_left : Bor (List ℕ)
+  pub out_left : MutBor (List ℕ)
+  pub counts_left : MutBor (List ℕ)
   pub number : ℕ
   pub call : placard.Post ([], ([], ([], tt))) (buffer, (out, (counted, tt))) number (buffer, (out_left, (counts_left, tt)))
 
@@ -221,13 +221,13 @@ after journal.undo s = lent_call journal.undo s
 after (journal.read xs) s = lent_read xs s
 
 next : {n : ℕ} {calls : List Call} {buffer answers : List ℕ} (x : Call) → Trace n calls buffer answers → Trace n (calls ++ x ∷ []) (after x buffer).1 (answers ++ (after x buffer).0 ∷ [])
-next {buffer = s} (journal.weigh w) t = then_weigh t w ([], tt) (slice_of s) (slice_of (after (journal.weigh w) s).1) _ refl refl
-next {buffer = s} (journal.pair x) t = then_pair t x ([], tt) (slice_of s) (slice_of (after (journal.pair x) s).1) _ refl refl
-next {buffer = s} (journal.install u) t = then_sheet t u ([], tt) (slice_of s) (slice_of (after (journal.install u) s).1) _ refl refl
-next {buffer = s} (journal.change x) t = then_change t x ([], tt) (slice_of s) (slice_of (after (journal.change x) s).1) _ refl refl
-next {buffer = s} (journal.seat f) t = then_seat t f ([], tt) (slice_of s) (slice_of (after (journal.seat f) s).1) _ refl refl
-next {buffer = s} journal.undo t = then_undo t ([], tt) (slice_of s) (slice_of (after journal.undo s).1) _ refl refl
-next {buffer = s} (journal.read xs) t = then_read t ([], ([], tt)) (slice_of s) (slice_of (after (journal.read xs) s).1) (slice_of xs) (slice_of xs) _ refl refl
+next {buffer = s} (journal.weigh w) t = then_weigh t w ([], tt) (buffer_of s) (buffer_of (after (journal.weigh w) s).1) _ refl refl
+next {buffer = s} (journal.pair x) t = then_pair t x ([], tt) (buffer_of s) (buffer_of (after (journal.pair x) s).1) _ refl refl
+next {buffer = s} (journal.install u) t = then_sheet t u ([], tt) (buffer_of s) (buffer_of (after (journal.install u) s).1) _ refl refl
+next {buffer = s} (journal.change x) t = then_change t x ([], tt) (buffer_of s) (buffer_of (after (journal.change x) s).1) _ refl refl
+next {buffer = s} (journal.seat f) t = then_seat t f ([], tt) (buffer_of s) (buffer_of (after (journal.seat f) s).1) _ refl refl
+next {buffer = s} journal.undo t = then_undo t ([], tt) (buffer_of s) (buffer_of (after journal.undo s).1) _ refl refl
+next {buffer = s} (journal.read xs) t = then_read t ([], ([], tt)) (buffer_of s) (buffer_of (after (journal.read xs) s).1) (slice_of xs) (slice_of xs) _ refl refl
 
 runs_on : {buffer answers : List ℕ} (calls more : List Call) (first lent counts : List ℕ) → Trace (length first) calls buffer answers → Run (calls ++ more) first lent counts
 runs_on {buffer} {answers} calls [] first lent counts t =
@@ -236,19 +236,20 @@ runs_on {buffer} {answers} calls [] first lent counts t =
       buffer = slice_of buffer;
       answers = answers;
       trace = t;
-      out = slice_of lent;
+      out = buffer_of lent;
       as_lent = refl;
-      counted = slice_of counts;
+      counted = buffer_of counts;
       counts_lent = refl;
-      out_left = slice_of (placard_into (held_in buffer) lent counts).1;
-      counts_left = slice_of (placard_into (held_in buffer) lent counts).2;
+      out_left = buffer_of (placard_into (held_in buffer) lent counts).1;
+      counts_left = buffer_of (placard_into (held_in buffer) lent counts).2;
       number = (placard_into (held_in buffer) lent counts).0;
       call = refl;
     })
-runs_on calls (x ∷ more) first lent counts t = rw (append_assoc calls (x ∷ []) more) at (runs_on (calls ++ x ∷ []) more first lent counts (next x t))
+runs_on {buffer = buffer} calls (x ∷ more) first lent counts t =
+    rw (append_assoc calls (x ∷ []) more) at (runs_on {buffer = (after x buffer).1} (calls ++ x ∷ []) more first lent counts (next x t))
 
 -- Every list of calls has a trace on every buffer that a fresh record fits, whatever their arguments, and a placard call after it,
 -- whatever its buffers.
 pub every_list_runs : (calls : List Call) (first lent counts : List ℕ) → 6 ≤ length first → Run calls first lent counts
 every_list_runs calls first lent counts h =
-    runs_on [] calls first lent counts (from_fresh ([], tt) (slice_of first) (slice_of (lent_file [] first).1) (fresh_fits first h))
+    runs_on [] calls first lent counts (from_fresh ([], tt) (buffer_of first) (buffer_of (lent_file [] first).1) (fresh_fits first h))

@@ -77,15 +77,19 @@ pub record Run (calls : List Call) (lent : List ℕ) : Type 0 where
   pub last : Record
   pub answers : List ℕ
   pub trace : Trace calls last answers
-  pub buffer : Bor (List ℕ)
+  pub buffer : MutBor (List ℕ)
   pub as_lent : buffer.now ≡ lent
-  pub left : Bor (List ℕ)
+  pub left : MutBor (List ℕ)
   pub answer : Placard
   pub call : placard.Post ([], tt) (last, (buffer, tt)) answer (last, (left, tt))
 
 -- a slice of some numbers
 abbrev pub slice_of : List ℕ → Bor (List ℕ)
 slice_of xs = record { ref_ptr = (0, 0); now = xs }
+
+-- the same, lent to be written
+abbrev pub buffer_of : List ℕ → MutBor (List ℕ)
+buffer_of xs = record { ref_ptr = (0, 0); ghost_name = 0; now = xs }
 
 -- one call more can run
 next : {calls : List Call} {r : Record} {answers : List ℕ} (x : Call) → Trace calls r answers → Trace (calls ++ x ∷ []) (answered r x).log (answers ++ (answered r x).number ∷ [])
@@ -104,13 +108,14 @@ runs_on {r} {answers} calls [] lent t =
       last = r;
       answers = answers;
       trace = t;
-      buffer = slice_of lent;
+      buffer = buffer_of lent;
       as_lent = refl;
-      left = slice_of (placard_answer (held_by r) lent).1;
+      left = buffer_of (placard_answer (held_by r) lent).1;
       answer = (placard_answer (held_by r) lent).0;
       call = (refl, refl);
     })
-runs_on calls (x ∷ more) lent t = rw (append_assoc calls (x ∷ []) more) at (runs_on (calls ++ x ∷ []) more lent (next x t))
+runs_on {r = r} calls (x ∷ more) lent t =
+    rw (append_assoc calls (x ∷ []) more) at (runs_on {r = (answered r x).log} (calls ++ x ∷ []) more lent (next x t))
 
 -- Every list of calls has a trace, whatever their arguments, and a placard call after it, whatever the buffer.
 pub every_list_runs : (calls : List Call) (lent : List ℕ) → Run calls lent

@@ -2,7 +2,7 @@
 -- of it. Assumes nothing.
 use Rattle.std.specs.Prelude.{◌≡◌, List, ℕ, ◌≤◌, length, take}
 use Rattle.std.proofs.Common.{ap, ◌∙◌}
-use Rattle.std.specs.Borrow.{MutBor}
+use Rattle.std.specs.Borrow.{Bor, MutBor}
 use Rattle.paper.specs.declared.Written.{Written}
 use Rattle.paper.specs.File.{file_bytes}
 use Rattle.paper.specs.Journal.{Call, journal}
@@ -21,6 +21,6 @@ journal_record t = let f = follows t in f.made ∙ ap record_of f.list
 -- written into any buffer that holds it and read back from those bytes, it is the same record
 pub saved_and_read : {calls : List Call} {r : Record} {answers : List ℕ} → Trace calls r answers
     → (κs : _) (o o' : MutBor (List ℕ)) (a : Written) → write.Post κs (r, (o, tt)) a (r, (o', tt)) → length (file_bytes (held_by r)) ≤ length o.now
-    → (q : Record) (λs : _) (i i' : MutBor (List ℕ)) (k : Kept) → read.Post λs (q, (i, tt)) k (q, (i', tt)) → i.now ≡ take a.length o'.now
+    → (q : Record) (λs : _) (i i' : Bor (List ℕ)) (k : Kept) → read.Post λs (q, (i, tt)) k (q, (i', tt)) → i.now ≡ take a.length o'.now
     → k ≡ record { number = 0; log = r }
 saved_and_read {r = r} t = written_then_read r (follows t).made
