@@ -2,7 +2,7 @@
 
 // The logbook: a text whose lines, in turn, are calls on a fresh record.
 ghost use Rattle.std.specs.Prelude.{◌≡◌};
-ghost use Rattle.book.specs.Books.{book_of, failing as Books·failing, reading_of};
+ghost use Rattle.book.specs.Books.{book_of, failing, reading_of};
 
 use judge::{Judged, Standing, Weighed};
 use language::Line;
@@ -24,7 +24,7 @@ pub struct Reading {
 }
 
 fn failing(ending: Ending) -> Reading
-    ensures { result ≡ Books·failing ending }
+    ensures { result ≡ failing ending }
 {
     let log = Record::fresh();
     Reading { log, ending }
@@ -42,7 +42,7 @@ pub fn read(s: &[u8]) -> Reading
     let mut at = 0;
     let mut line = 0;
     while at < s.len() {
-        let end = bytes::scan::find(s, at, s.len(), b'\n');
+        let end = laws::find(s, at, s.len(), b'\n');
         let said = language::read_line(&s[at..end]);
         at = language::behind(s, end);
         line += 1;

@@ -1,12 +1,11 @@
 -- What the call answers: by whether the buffer is too short for the listing, which stands at the beginning of what is copied.
 -- Assumes nothing.
 use mathlib.Core.Path.{◌≡◌, ◌∙◌}
-use mathlib.Core.List.{List, ◌++◌}
+use mathlib.Core.List.{List}
 use Prim.Native.Nat.{ℕ, ◌≤◌, ◌<◌}
-use native.Mathlib.Omega.{arith}
-use lib.ListN.{length, take, drop, replicate, length-replicate}
-use lib.Seq.{take_all}
+use lib.ListN.{length}
 use borrow.Author.Tests.{lt-ltb, le-ltb}
+use Rattle.laws.specs.Written.{written, written_first}
 use Rattle.paper.specs.declared.Entry.{Entry}
 use Rattle.paper.specs.Refusals.{first_number}
 use Rattle.paper.specs.Answers.{over, written_by}
@@ -20,11 +19,7 @@ pub long_enough : (es : List Entry) (s : List ℕ) → length (listing es) ≤ l
 unfolding listed_answer written_by first_number
 long_enough es s h = rw (le-ltb (length s) (length (listing es)) h)
 
--- a buffer of n bytes
-pub room_in : (n m x : ℕ) → m ≤ n → m ≤ length (replicate n x)
-room_in n m x h = rw (length-replicate n x) h
-
 -- what is copied
-pub copied : (s out xs ys : List ℕ) → ys ≡ xs → out ≡ take (length ys) ys ++ drop (length ys) s → out ≡ over xs s
+pub copied : (s out xs ys : List ℕ) → ys ≡ xs → out ≡ written s 0 ys → out ≡ over xs s
 unfolding over
-copied s out xs ys e f = f ∙ rw (e, take_all (length xs) xs (omega arith))
+copied s out xs ys e f = f ∙ rw e (written_first s xs)

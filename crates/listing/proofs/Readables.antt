@@ -51,6 +51,8 @@ fields_narrow (entry.Seat f) = refl
 
 all_small : (fs : List Field) (vs : List ℤ) → AllFit fs vs → narrow fs ≡ true → Each (λ (v : ℤ). nat_abs v < 10 ^ 18) vs
 all_small [] [] done n = tt
+all_small [] (v ∷ vs) h n = elim h [ ]
+all_small (f ∷ fs) [] h n = elim h [ ]
 all_small (f ∷ fs) (v ∷ vs) (h and hs) n =
     let t = ltb (256 ^ f.width) (10 ^ 18) in
     let k : 256 ^ f.width < 10 ^ 18 = ltb-true (256 ^ f.width) (10 ^ 18) (left t (narrow fs) n) in

@@ -1,11 +1,7 @@
 -- The listing of a list with one entry more, by recursion on the list, and the parts of an entry's lines. Assumes nothing.
 use mathlib.Core.Path.{◌≡◌, refl, ap, ◌∙◌}
-use mathlib.Core.Logic.{inl, inr}
 use mathlib.Core.List.{List, [], ◌∷◌, ◌++◌, append_assoc, append-nil}
 use Prim.Native.Nat.{ℕ}
-use native.Mathlib.Omega.{arith}
-use denote.Enum.Declared.{tag_of}
-use types.Run.{OneOf}
 use Rattle.paper.specs.declared.Entry.{Entry}
 use Rattle.paper.specs.declared.Entry.TheVariants as entry
 use Rattle.paper.specs.declared.Sheet.{Sheet}
@@ -13,7 +9,6 @@ use Rattle.paper.specs.declared.Seat.{Seat}
 use Rattle.paper.specs.declared.CentreOfGravity.{CentreOfGravity}
 use Rattle.paper.specs.Placard.{feed}
 use Rattle.paper.specs.Answers.{centre_answer}
-use Rattle.paper.specs.contracts.Entry.{the_type}
 use Rattle.wording.specs.Texts.{entry_text}
 use Rattle.listing.specs.Listings.{comment, remark, lines_of, listed_after, listing}
 
@@ -30,17 +25,13 @@ unfolding listing listed_after
 listing-more fs f = listed-append [] fs (f ∷ []) ∙ ap (λ (l : List ℕ). listed_after [] fs ++ l) (append-nil (lines_of (centre_answer (fs ++ f ∷ [])) f))
 
 -- an entry that is no sheet and no seat has a comment
-pub commented : (c : CentreOfGravity) (e : Entry) → OneOf (0 ∷ 2 ∷ 3 ∷ []) (tag_of the_type e) → remark c e ≡ comment c
+pub commented : (c : CentreOfGravity) (e : Entry) → ((s : Sheet) → e ≡ entry.Sheet s → ⊥) → ((f : Seat) → e ≡ entry.Seat f → ⊥) → remark c e ≡ comment c
 unfolding remark
-commented c (entry.Weighing w) h = refl
-commented c (entry.Sheet s) (inl h) = absurd (omega arith)
-commented c (entry.Sheet s) (inr (inl h)) = absurd (omega arith)
-commented c (entry.Sheet s) (inr (inr h)) = absurd (omega arith)
-commented c (entry.Change x) h = refl
-commented c (entry.Paired x) h = refl
-commented c (entry.Seat f) (inl h) = absurd (omega arith)
-commented c (entry.Seat f) (inr (inl h)) = absurd (omega arith)
-commented c (entry.Seat f) (inr (inr h)) = absurd (omega arith)
+commented c (entry.Weighing w) h k = refl
+commented c (entry.Sheet s) h k = absurd (h s refl)
+commented c (entry.Change x) h k = refl
+commented c (entry.Paired x) h k = refl
+commented c (entry.Seat f) h k = absurd (k f refl)
 
 -- a sheet and a seat have none
 pub bare_sheet : (c : CentreOfGravity) (e : Entry) (s : Sheet) → e ≡ entry.Sheet s → remark c e ≡ []

@@ -120,6 +120,6 @@ pub fn show(r: Record, out: &mut [u8]) -> Written
             length: 0,
         };
     }
-    bytes::copy(&text[..length], out);
+    laws::copy(&text[..length], out);
     Written { number: 0, length }
 }
