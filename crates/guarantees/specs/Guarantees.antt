@@ -8,7 +8,7 @@
 use Rattle.std.specs.Prelude.{◌≡◌, Bool, true, not, ◌&&◌, List, ℕ, ◌*◌, ◌≤◌, ◌<◌, ℤ, length, get_or, set, take}
 use Rattle.std.proofs.Math.Option.{some}
 use Rattle.std.specs.Int.Signed.{le_z}
-use Rattle.std.specs.Borrow.{Bor}
+use Rattle.std.specs.Borrow.{Bor, MutBor}
 use Rattle.laws.specs.Lists.{Each}
 use Rattle.laws.specs.Splits.{split}
 use Rattle.paper.specs.declared.Entry.{Entry}
@@ -72,7 +72,7 @@ use Rattle.claim.specs.Carrying.{Carrying, row_moment, every_row_carried}
 
 -- Demand 3: every list of calls from a fresh record, and a placard after it on any buffer.
 pub demand_3 : {calls : List Call} {r : Record} {answers : List ℕ} → on-record.Trace calls r answers
-    → (κs : _) (o o' : Bor (List ℕ)) (a : Placard) → placard.Post κs (r, (o, tt)) a (r, (o', tt))
+    → (κs : _) (o o' : MutBor (List ℕ)) (a : Placard) → placard.Post κs (r, (o, tt)) a (r, (o', tt))
     → Demand3 (numbers calls) (journal calls) answers o.now a o'.now
 demand_3 = on-record.demand_3
 
@@ -131,7 +131,7 @@ longest_placard n h = h
 
 -- A record that a list of calls gave, written into any buffer that holds it and read back from those bytes, is the same record.
 pub written_then_read : {calls : List Call} {r : Record} {answers : List ℕ} → on-record.Trace calls r answers
-    → (κs : _) (o o' : Bor (List ℕ)) (a : Written) → write.Post κs (r, (o, tt)) a (r, (o', tt)) → length (file_bytes (held_by r)) ≤ length o.now
+    → (κs : _) (o o' : MutBor (List ℕ)) (a : Written) → write.Post κs (r, (o, tt)) a (r, (o', tt)) → length (file_bytes (held_by r)) ≤ length o.now
     → (q : Record) (λs : _) (i i' : Bor (List ℕ)) (k : Kept) → read.Post λs (q, (i, tt)) k (q, (i', tt)) → i.now ≡ take a.length o'.now
     → k ≡ record { number = 0; log = r }
 written_then_read = records.saved_and_read
@@ -182,7 +182,7 @@ shown_then_read {r = r} t = read_again.shown_then_read r (on-record.follows t).m
 -- Demand 3 once more: every list of its calls on a lent buffer, and a placard after it. The journal's numbers, and 11 where the
 -- buffer has no room for the file afterwards.
 pub library_demand_3 : {n : ℕ} {calls : List Call} {buffer answers : List ℕ} → of-library.Trace n calls buffer answers
-    → (κs : _) (i i' o o' c c' : Bor (List ℕ)) (k : ℕ) → i.now ≡ buffer → library-placard.Post κs (i, (o, (c, tt))) k (i', (o', (c', tt)))
+    → (κs : _) (i i' : Bor (List ℕ)) (o o' c c' : MutBor (List ℕ)) (k : ℕ) → i.now ≡ buffer → library-placard.Post κs (i, (o, (c, tt))) k (i', (o', (c', tt)))
     → of-library.LibraryDemand3 n calls answers o.now c.now k o'.now c'.now
 library_demand_3 = of-library.demand_3
 
