@@ -16,6 +16,6 @@ returns-in_default c es w = sym (centre_none _ (sym (ap (λ (o : Stands). o.bala
 pub returns : goal.returns
 unfolding stands_in
 returns c es w =
-        let e = sym (ap (λ (o : Stands). o.balance) w) ∙ ap balance_in c.in-Balance.is in
+    let e = sym (ap (λ (o : Stands). o.balance) w) ∙ ap balance_in c.in-Balance.is in
     rw (to_z-of_z {w = w64} (record { sfits = c.moment.type_inv }), to_z-of_z {w = w64} (record { sfits = c.centre.type_inv }), c.moment.ensures, c.centre.ensures)
     (sym (centre_some _ (plain c.in-Balance.b) e))

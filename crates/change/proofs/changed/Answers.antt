@@ -23,7 +23,7 @@ pub gained-total-requires : goal.gained-total-requires
 gained-total-requires c =
     let fine : is_change c.args.x ≡ true = change_fine c.args.b c.args.x c.requires.accepted in
     let added : c.half_grams-gain.result ≡ gain c.args.x = rw (to_z-of_z (record { sfits = c.struct_told-1.given.0.1 })) at c.half_grams-gain.ensures in
-        let range = gain_range _ (fine) in
+    let range = gain_range _ (fine) in
     rw (to_z-of_z (record { sfits = c.half_grams-gain.type_inv }), added) (omega (arith, c.requires.ranged.0), range.0, range.1)
 
 pub gained-part-requires : goal.gained-part-requires
@@ -31,7 +31,7 @@ gained-part-requires c =
     let fine : is_change c.args.x ≡ true = change_fine c.args.b c.args.x c.requires.accepted in
     let added : c.half_grams-gain.result ≡ gain c.args.x = rw (to_z-of_z (record { sfits = c.struct_told-1.given.0.1 })) at c.half_grams-gain.ensures in
     let counts : c.counted.result ≡ part c.args.x = rw (to_z-of_z (record { sfits = c.half_grams-gain.type_inv }), added) at c.counted.ensures in
-        let range = part_range _ (fine) in
+    let range = part_range _ (fine) in
     rw (to_z-of_z (record { sfits = c.counted.type_inv }), counts) (omega (arith, c.requires.ranged.0), range.0, range.1)
 
 pub moment_of-m-requires : goal.moment_of-m-requires
@@ -63,7 +63,7 @@ returns c =
     let counts : c.counted.result ≡ part c.args.x = rw (to_z-of_z (record { sfits = c.half_grams-gain.type_inv }), added) at c.counted.ensures in
     let nonlifting : c.gained-part.result ≡ pos c.args.b.nonlifting +ℤ part c.args.x = rw (to_z-of_z (record { sfits = c.counted.type_inv }), counts) at c.gained-part.ensures in
     let moment : gain c.args.x *ℤ c.args.x.arm ≡ pos c.moment_of-m.result.up -ℤ pos c.moment_of-m.result.down = rw (to_z-of_z (record { sfits = c.half_grams-gain.type_inv }), added, to_z-of_z (record { sfits = c.struct_told-2-1.given.1.0.1 })) at c.moment_of-m.ensures.0 in
-        let m = c.moment_of-m in
+    let m = c.moment_of-m in
     let b = c.args.b in
     let x = c.args.x in
     let et : pos c.size.result ≡ pos b.total +ℤ gain x = rw (to_z-of_z (record { sfits = c.gained-total.type_inv }), total) at c.size.ensures in

@@ -18,7 +18,7 @@ returns-then-x-eq0 c = sym (c_none _ (sym (to_z-of_z {w = w64} (record { sfits =
 
 pub returns : goal.returns
 returns c =
-                c_some _
+    c_some _
     (rw (to_z-of_z {w = w64} (record { sfits = c.struct_told-1.given.0.1 })) at c.if-x-lt-SIGNED_LEAST.false)
     (rw (to_z-of_z {w = w64} (record { sfits = c.struct_told-2-1.given.0.1 })) at c.if-x-gt-SIGNED_MOST.false)
     (λ e. c.if-x-eq0.false (ap (of_z w64) e))

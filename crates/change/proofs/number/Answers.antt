@@ -56,7 +56,7 @@ gained-requires c =
     let added : c.half_grams-gain.result ≡ gain c.args.x = rw (to_z-of_z (record { sfits = c.struct_told-2-1.given.0.1 })) at c.half_grams-gain.ensures in
     let counts : c.counted.result ≡ part c.args.x = rw (to_z-of_z (record { sfits = c.half_grams-gain.type_inv }), added) at c.counted.ensures in
     let range = part_range _ (change_fine) in
-        rw (to_z-of_z (record { sfits = c.counted.type_inv }), counts) (omega (arith, c.requires), range.0, range.1)
+    rw (to_z-of_z (record { sfits = c.counted.type_inv }), counts) (omega (arith, c.requires), range.0, range.1)
 
 pub returns-then-not-within-2 : goal.returns-then-not-within-2
 returns-then-not-within-2 c =
@@ -70,9 +70,9 @@ returns-then-not-within-2 c =
     let counts : c.counted.result ≡ part c.args.x = rw (to_z-of_z (record { sfits = c.half_grams-gain.type_inv }), added) at c.counted.ensures in
     let nonlifting : c.gained.result ≡ pos c.args.b.nonlifting +ℤ part c.args.x = rw (to_z-of_z (record { sfits = c.counted.type_inv }), counts) at c.gained.ensures in
     let part_tested : c.within-2.result ≡ is_non_lifting (paper.changed (plain c.args.b) c.args.x) = let g = c.args in
-        rw (to_z-of_z (record { sfits = c.gained.type_inv }), to_z-of_z (record { sfits = c.gained-total.type_inv })) at c.within-2.ensures ∙ part_test g.b g.x _ _ (total) (nonlifting) in
+    rw (to_z-of_z (record { sfits = c.gained.type_inv }), to_z-of_z (record { sfits = c.gained-total.type_inv })) at c.within-2.ensures ∙ part_test g.b g.x _ _ (total) (nonlifting) in
     let g = c.args in
-        part_bad g.b g.x (arm_fine) (change_fine) ((sym (total_tested) ∙ c.if-not-within.false)) ((sym (part_tested) ∙ c.if-not-within-2.true))
+    part_bad g.b g.x (arm_fine) (change_fine) ((sym (total_tested) ∙ c.if-not-within.false)) ((sym (part_tested) ∙ c.if-not-within-2.true))
 
 pub returns : goal.returns
 returns c =
@@ -86,6 +86,6 @@ returns c =
     let counts : c.counted.result ≡ part c.args.x = rw (to_z-of_z (record { sfits = c.half_grams-gain.type_inv }), added) at c.counted.ensures in
     let nonlifting : c.gained.result ≡ pos c.args.b.nonlifting +ℤ part c.args.x = rw (to_z-of_z (record { sfits = c.counted.type_inv }), counts) at c.gained.ensures in
     let part_tested : c.within-2.result ≡ is_non_lifting (paper.changed (plain c.args.b) c.args.x) = let g = c.args in
-        rw (to_z-of_z (record { sfits = c.gained.type_inv }), to_z-of_z (record { sfits = c.gained-total.type_inv })) at c.within-2.ensures ∙ part_test g.b g.x _ _ (total) (nonlifting) in
+    rw (to_z-of_z (record { sfits = c.gained.type_inv }), to_z-of_z (record { sfits = c.gained-total.type_inv })) at c.within-2.ensures ∙ part_test g.b g.x _ _ (total) (nonlifting) in
     let g = c.args in
-        all_fine g.b g.x (arm_fine) (change_fine) ((sym (total_tested) ∙ c.if-not-within.false)) ((sym (part_tested) ∙ c.if-not-within-2.false))
+    all_fine g.b g.x (arm_fine) (change_fine) ((sym (total_tested) ∙ c.if-not-within.false)) ((sym (part_tested) ∙ c.if-not-within-2.false))

@@ -18,5 +18,5 @@ entry_of-requires c = refl
 pub returns : goal.returns
 unfolding layout_of widths total
 returns c =
-        let a = c.args in
+    let a = c.args in
     fields_got 3 a.s.now a.from 9 refl c.if-s-from-lt9.false _ _ c.change_at.ensures c.entry_of.ensures

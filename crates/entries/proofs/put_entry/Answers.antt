@@ -17,7 +17,7 @@ put_fields-requires c =
     row_in c.args.e f.result c.layout_of-row.result f.ensures c.layout_of-row.ensures in
     let size : c.layout_of-row.result.length + 1 ≡ length (entry_bytes c.args.e) = let f = c.fields_of-fields in
     size_in c.args.e f.result c.layout_of-row.result f.ensures c.layout_of-row.ensures in
-        let a = c.args in
+    let a = c.args in
     let total_is = ap total (row).taken in
     ((row).few, omega (arith, size, total_is, (row).size, length-set a.out.now a.at c.fields_of-fields.result.kind))
 

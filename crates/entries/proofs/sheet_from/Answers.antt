@@ -18,5 +18,5 @@ entry_of-requires c = refl
 pub returns : goal.returns
 unfolding layout_of widths total
 returns c =
-        let a = c.args in
+    let a = c.args in
     fields_got 2 a.s.now a.from 60 refl c.if-s-from-lt60.false _ _ c.sheet_at.ensures c.entry_of.ensures

@@ -18,5 +18,5 @@ entry_of-requires c = refl
 pub returns : goal.returns
 unfolding layout_of widths total
 returns c =
-        let a = c.args in
+    let a = c.args in
     fields_got 1 a.s.now a.from 21 refl c.if-s-from-lt21.false _ _ c.weighing_at.ensures c.entry_of.ensures

@@ -18,14 +18,14 @@ pub overflow_add-length : goal.overflow_add-length
 overflow_add-length c =
     let slots : length c.args.r.slots ≡ 64 = search rules in
     let l = c.loop-i in
-        let k = one_entry c.args.r.slots l.i _ c.length_of-length.result c.length_of-length.ensures in
+    let k = one_entry c.args.r.slots l.i _ c.length_of-length.result c.length_of-length.ensures in
     omega (arith, bytes_most c.args.r.slots l.i (omega (arith, slots)))
 
 pub loop-i-preserved : goal.loop-i-preserved
 loop-i-preserved c =
     let slots : length c.args.r.slots ≡ 64 = search rules in
     let l = c.loop-i in
-        (omega arith, counted c.args.r.slots l.i _ l.length c.length_of-length.result (omega (arith, slots)) l.invariant.1 c.length_of-length.ensures)
+    (omega arith, counted c.args.r.slots l.i _ l.length c.length_of-length.result (omega (arith, slots)) l.invariant.1 c.length_of-length.ensures)
 
 pub returns : goal.returns
 unfolding slotted

@@ -25,7 +25,7 @@ use Rattle.file.proofs.read.Goals as goal
 pub returns-then-not-is_headed : goal.returns-then-not-is_headed
 returns-then-not-is_headed c =
     let bytes : are_bytes c.args.s.now ≡ true = bytes_at c.args.s.now (λ i h. (c.shared_slice_known-1.given i).fits) in
-        let a = c.args in
+    let a = c.args in
     no_file a.r a.s.now (bad_header a.s.now (bytes) ((sym c.is_headed.ensures ∙ c.if-not-is_headed.true)))
 
 pub bounds-s-4 : goal.bounds-s-4

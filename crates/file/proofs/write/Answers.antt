@@ -24,7 +24,7 @@ pub returns-then-out-length : goal.returns-then-out-length
 returns-then-out-length c =
     let entries : slotted c.replay-now.result.log ≡ held_by c.args.r = ap slotted c.replay-now.ensures.log ∙ slotted_record (held_by c.args.r) in
     let size : c.length_of-length.result ≡ length (file_bytes (held_by c.args.r)) = c.length_of-length.ensures ∙ ap (λ es. length (file_bytes es)) (entries) in
-        let a = c.args in
+    let a = c.args in
     let e = too_short (held_by a.r) a.out.now (omega (arith, size)) in
     (sym (ap (λ p. p.0) e), sym (ap (λ p. p.1) e))
 

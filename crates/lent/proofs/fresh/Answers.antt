@@ -8,4 +8,4 @@ returns-then-buffer-lt-HEADER c = fresh_short c.args.buffer.now c.if-buffer-lt-H
 
 pub returns : goal.returns
 returns c =
-            fresh_put c.args.buffer.now _ c.if-buffer-lt-HEADER.false c.put_header.ensures
+    fresh_put c.args.buffer.now _ c.if-buffer-lt-HEADER.false c.put_header.ensures

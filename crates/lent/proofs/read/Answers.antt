@@ -26,7 +26,7 @@ returns-then-buffer-file c =
 pub bounds-buffer-4 : goal.bounds-buffer-4
 bounds-buffer-4 c =
     let file : (es : List Entry) × (file_of c.args.file.now ≡ some es) = let f = rw c.in-File.is at c.survey.ensures in (f.0, f.1) in
-        let a = c.args in
+    let a = c.args in
     let f = file in
     omega (arith, read_long a.file.now a.buffer.now f.0 f.1)
 

@@ -20,14 +20,14 @@ pub returns-then-found-eq0 : goal.returns-then-found-eq0
 returns-then-found-eq0 c =
     let buffer : List ℕ = c.args.buffer.now in
     let held : Finds (held_in buffer) (File c.in-File.found) = rw c.in-File.is at c.held.ensures in
-        let f = held in
+    let f = held in
     bare_held (buffer) f.0 f.1 (omega (arith, f.2.count, c.if-found-eq0.true))
 
 pub put_header-requires : goal.put_header-requires
 put_header-requires c =
     let buffer : List ℕ = c.args.buffer.now in
     let held : Finds (held_in buffer) (File c.in-File.found) = rw c.in-File.is at c.held.ensures in
-        let f = held in
+    let f = held in
     omega (arith, file_size f.0, held_room (buffer) f.0 f.1)
 
 pub returns : goal.returns

@@ -11,12 +11,12 @@ use Rattle.nodhulika.proofs.nodhulika_centre.Goals as goal
 
 pub returns-then-c-ne0 : goal.returns-then-c-ne0
 returns-then-c-ne0 c =
-        let a = c.args in
+    let a = c.args in
     centre_refused_lem _ a.answer.now c.if-c-ne0.true ∙ ap (λ k. centre_into k a.answer.now) c.centre-c.ensures
 
 pub returns-then-answer-lt-ANSWER : goal.returns-then-answer-lt-ANSWER
 returns-then-answer-lt-ANSWER c =
-        let a = c.args in
+    let a = c.args in
     centre_short _ a.answer.now (omega arith) c.if-answer-lt-ANSWER.true ∙ ap (λ k. centre_into k a.answer.now) c.centre-c.ensures
 
 pub returns : goal.returns

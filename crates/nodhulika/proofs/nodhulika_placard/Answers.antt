@@ -12,7 +12,7 @@ returns-then-answer-lt-ANSWER c =
 
 pub returns-then-a-ne0 : goal.returns-then-a-ne0
 returns-then-a-ne0 c =
-        let a = c.args in
+    let a = c.args in
     placard_refused_lem _ a.out.now a.answer.now _ _ (omega arith) c.placard-a.ensures c.if-a-ne0.true
 
 pub returns : goal.returns

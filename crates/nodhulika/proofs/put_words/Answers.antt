@@ -5,4 +5,4 @@ use Rattle.nodhulika.proofs.put_words.Goals as goal
 
 pub returns : goal.returns
 returns c =
-                    three_put c.args.out.now _ _ _ c.args.x c.args.y c.args.z c.requires c.put_number.ensures c.put_number-2.ensures c.put_number-3.ensures
+    three_put c.args.out.now _ _ _ c.args.x c.args.y c.args.z c.requires c.put_number.ensures c.put_number-2.ensures c.put_number-3.ensures

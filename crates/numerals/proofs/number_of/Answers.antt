@@ -34,4 +34,4 @@ returns-else-s-gt0 c =
     ∙ elim c.else-s-gt0.branch [
       | else-s-gt0-via-then-s-gt0+else-s-eq45 w ↦ value-plain s n (ne_eqb (get_or s 0 0) hyphen w.if-s-eq45.false) c.size_of-else-s-gt0.ensures.0
       | else-s-gt0-via-else-s-gt0 w ↦ value_none s n w.if-s-gt0.false c.size_of-else-s-gt0.ensures.0
-      ]
+    ]

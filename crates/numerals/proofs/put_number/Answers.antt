@@ -24,11 +24,11 @@ put_size-requires-else-x-lt0 c =
 pub returns-then-x-lt0 : goal.returns-then-x-lt0
 returns-then-x-lt0 c =
     let below : c.args.x ≡ negsuc c.under.result = sym (to_z-of_z c.ranges.x) ∙ c.under.ensures.0 in
-                let a = c.args in
+    let a = c.args in
     put-below a.out.now c.put_size.new.out a.at c.put_size.result c.under.result a.x (omega (arith, numeral_some a.x)) (below) c.put_size.ensures
 
 pub returns-else-x-lt0 : goal.returns-else-x-lt0
 returns-else-x-lt0 c =
     let from : pos c.size.result ≡ c.args.x = c.size.ensures ∙ to_z-of_z c.ranges.x in
-            let a = c.args in
+    let a = c.args in
     put_from_lem a.out.now c.put_size-else-x-lt0.new.out a.at c.put_size-else-x-lt0.result c.size.result a.x (from) c.put_size-else-x-lt0.ensures

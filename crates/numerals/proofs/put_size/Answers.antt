@@ -17,7 +17,7 @@ overflow_add-result c = omega (arith, length-decimal c.args.n)
 pub returns : goal.returns
 unfolding decimal
 returns c =
-        let a = c.args in
+    let a = c.args in
     let count : c.places-k.result ≡ places a.n = c.places-k.ensures in
     let put : c.put_digits.new.out ≡ written a.out.now a.at (digits c.places-k.result a.n) = c.put_digits.ensures in
     (omega (arith, length-decimal a.n), put ∙ ap (λ (k : ℕ). written a.out.now a.at (digits k a.n)) count)

@@ -15,12 +15,12 @@ overflow_mul-n c =
 
 pub overflow_add-n : goal.overflow_add-n
 overflow_add-n c =
-        let l = c.loop-i in
+    let l = c.loop-i in
     omega (arith, read_room c.args.s.now l.n l.i l.invariant (omega arith))
 
 pub loop-i-preserved : goal.loop-i-preserved
 loop-i-preserved c =
-        let l = c.loop-i in
+    let l = c.loop-i in
     read_one c.args.s.now l.n l.i c.digit.result l.invariant (omega arith) (omega (arith, ltb-true)) c.digit.ensures.0
 
 pub returns-else-i-s : goal.returns-else-i-s

@@ -30,7 +30,7 @@ wheel_and_tail-requires c =
 pub returns-then-w-eq1 : goal.returns-then-w-eq1
 returns-then-w-eq1 c =
     let sides : SidesOf c.args.w.a c.split-a.result.up c.split-a.result.down = rw (to_z-of_z (record { sfits = c.struct_told-1.given.1.1.1.0.1 })) at c.split-a.ensures in
-        let t = c.wheel_and_tail.ensures in
+    let t = c.wheel_and_tail.ensures in
     (moment_1 _ _ _ _ _ (sides) c.if-w-eq1.true t.aft t.fore, t.aft_most, t.fore_most)
 
 pub nose_and_wheel-requires : goal.nose_and_wheel-requires
@@ -50,7 +50,7 @@ nose_and_wheel-requires c =
 pub returns-then-w-eq2 : goal.returns-then-w-eq2
 returns-then-w-eq2 c =
     let sides : SidesOf c.args.w.a c.split-a.result.up c.split-a.result.down = rw (to_z-of_z (record { sfits = c.struct_told-1.given.1.1.1.0.1 })) at c.split-a.ensures in
-        let t = c.nose_and_wheel.ensures in
+    let t = c.nose_and_wheel.ensures in
     let part = (in_2 c.args.w c.requires.0 c.if-w-eq2.true).0 in
     (moment_2 _ _ _ _ _ (sides) part c.if-w-eq2.true t.aft t.fore, t.aft_most, t.fore_most)
 
@@ -71,7 +71,7 @@ two_slings-requires c =
 pub returns-then-w-eq3 : goal.returns-then-w-eq3
 returns-then-w-eq3 c =
     let sides : SidesOf c.args.w.a c.split-a.result.up c.split-a.result.down = rw (to_z-of_z (record { sfits = c.struct_told-1.given.1.1.1.0.1 })) at c.split-a.ensures in
-        let t = c.two_slings.ensures in
+    let t = c.two_slings.ensures in
     (moment_3 _ _ _ _ _ (sides) c.if-w-eq3.true t.aft t.fore, t.aft_most, t.fore_most)
 
 pub held_down-requires : goal.held_down-requires
@@ -95,5 +95,5 @@ returns c =
     let sides : SidesOf c.args.w.a c.split-a.result.up c.split-a.result.down = rw (to_z-of_z (record { sfits = c.struct_told-1.given.1.1.1.0.1 })) at c.split-a.ensures in
     let fourth : c.args.w.m ≡ 4 = last _ c.requires.0 c.if-w-eq1.false c.if-w-eq2.false c.if-w-eq3.false in
     let less : c.args.w.q ≤ c.args.w.p = omega (arith, in_4 c.args.w c.requires.0 (fourth)) in
-        let t = c.held_down.ensures in
+    let t = c.held_down.ensures in
     (moment_4 _ _ _ _ _ (sides) (less) (fourth) t.aft t.fore, t.aft_most, t.fore_most)

@@ -7,7 +7,7 @@ use Rattle.reading.proofs.reckoned.Goals as goal
 
 pub returns : goal.returns
 returns c =
-        let g = c.total.ensures in
+    let g = c.total.ensures in
     let m = c.moment_of-m.ensures in (
       record { total = g.0; moment = m.0; nonlifting = refl },
       record {

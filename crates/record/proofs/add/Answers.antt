@@ -35,14 +35,14 @@ overflow_add-next c =
 
 pub returns-in-Refused : goal.returns-in-Refused
 returns-in-Refused c =
-        let g = c.args in
+    let g = c.args in
     let says = rw c.in-Refused.is at c.judge.ensures in
     let n = says.0 ∙ number_is (held_by g.r) c.replay-now.result c.replay-now.ensures g.e in
     sym (rw (← n) (refused_is _ g.r _ (omega (arith, says.0, says.1))))
 
 pub returns-in-Accepted : goal.returns-in-Accepted
 returns-in-Accepted c =
-        let g = c.args in
+    let g = c.args in
     let at = c.replay-now.ensures in
     let r = c.replay-now.result in
     let says = rw c.in-Accepted.is at c.judge.ensures in

@@ -26,7 +26,7 @@ pub loop-i-preserved-in-Refused : goal.loop-i-preserved-in-Refused
 loop-i-preserved-in-Refused c =
     let all_slots : length c.args.r.slots ≡ capacity = search rules in
     let l = c.loop-i in
-        let says = rw c.in-Refused.is at c.judge.ensures in (
+    let says = rw c.in-Refused.is at c.judge.ensures in (
       omega arith,
       omega (arith, ltb-true),
       one_more c.args.r.slots l.i _ _ (omega (arith, all_slots)) (passed_over_lem _ (record { log = record { slots = l.slots; count = l.n }; standing = l.standing }) l.invariant.2 _ says.1),
@@ -57,7 +57,7 @@ pub loop-i-preserved : goal.loop-i-preserved
 loop-i-preserved c =
     let all_slots : length c.args.r.slots ≡ capacity = search rules in
     let l = c.loop-i in
-        let says = rw c.in-Accepted.is at c.judge.ensures in (
+    let says = rw c.in-Accepted.is at c.judge.ensures in (
       omega arith,
       omega (arith, ltb-true),
       one_more c.args.r.slots l.i _ _ (omega (arith, all_slots)) (gone_on _ (record { log = record { slots = l.slots; count = l.n }; standing = l.standing }) l.invariant.2 _ says.0 _ refl says.1 says.2),
@@ -72,4 +72,4 @@ pub returns-after-loop-i : goal.returns-after-loop-i
 returns-after-loop-i c =
     let all_slots : length c.args.r.slots ≡ capacity = search rules in
     let l = c.loop-i in
-        rw (held_out c.args.r l.i (omega (arith, all_slots)) l.invariant.1) at l.invariant.2
+    rw (held_out c.args.r l.i (omega (arith, all_slots)) l.invariant.1) at l.invariant.2

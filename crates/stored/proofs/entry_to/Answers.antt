@@ -7,7 +7,7 @@ use Rattle.stored.proofs.entry_to.Goals as goal
 
 pub returns-in_default : goal.returns-in_default
 returns-in_default c =
-        let a = c.args in
+    let a = c.args in
     none_to a.s.now a.at a.kinds (sym c.entry_at.ensures ∙ c.in_default.is)
 
 pub returns-then-kinds-kind_of : goal.returns-then-kinds-kind_of

@@ -85,13 +85,13 @@ loop-i-preserved c =
 
 pub returns-then-at-s : goal.returns-then-at-s
 returns-then-at-s c =
-        let a = c.args in
+    let a = c.args in
     let l = c.loop-i in
     left_over a.s.now a.kinds a.count l.i l.at l.invariant.1.entries l.invariant.1.passed (omega arith) c.if-at-s.true
 
 pub returns : goal.returns
 returns c =
-        let a = c.args in
+    let a = c.args in
     let l = c.loop-i in
     let w = l.invariant.1 in
     let e : l.i ≡ a.count = omega arith in
