@@ -6,7 +6,7 @@
 --   Record    weighing_stands, sheet_stands
 --             balance_of, sheet_of, seat_of, ends_of                    G, M and n, the sheet and the seat in force, of a journal; the
 --                                                                   two ends that the arm of a front load lies between
---   Rows      row_count, rear_of, water_of, row, is_step, keeps, breaks_at, every_arm, some_arm, inRange, is_blank
+--   Rows      row_count, rear_of, water_of, row, is_step, keeps, breaks_at, every_arm, some_arm, in_range, is_blank
 --   Placard   text_length, blank_count, text, line_in, ReadAs
 --   Refusals  placard_too_long, placard_number
 --   Answers   placard_answer, over                                   over: bytes written into a buffer, those behind them stay

@@ -2,7 +2,7 @@
 -- that the claim is not empty.
 --
 -- The hypotheses are the functions' own promises and nothing else: `weigh.Post` is what the contract of `nodhulika_weigh` in
--- crates/nodhulika/src/lib.rt promises of one call, and so with the others; `now o` are the bytes of a slice. The conclusion is
+-- crates/nodhulika/src/lib.rt promises of one call, and so with the others; `o.now` are the bytes of a slice. The conclusion is
 -- the record's, `Demand3`, of the journal of a record that is lent in n bytes (crates/lent/specs: numbers_in, journal_in): its
 -- numbers are the table's, and 11 where the buffer has no room for the file afterwards. `room_for_all` (Buffers.antt)
 -- shows that with 3,910 bytes it is the journal itself. Assumes nothing.

@@ -1,11 +1,9 @@
 -- `centre::answer` meets its contract: what stands is the balance of the list, or there is none. Assumes nothing.
 use mir.Syntax.{w64}
-use borrow.Author.Rules.{rules}
 use mathlib.Core.Path.{sym, ◌∙◌, ap}
 use mir.Facts.{to_z-of_z}
-use Rattle.balance.specs.Balance.{plain, Bounded}
+use Rattle.balance.specs.Balance.{plain}
 use Rattle.judge.specs.Standing.{Stands, stands_in, balance_in}
-use Rattle.judge.proofs.Judging.{of_weighed}
 use Rattle.centre.proofs.Answers.{centre_none, centre_some}
 use Rattle.centre.proofs.answer.Goals as goal
 

@@ -1,9 +1,8 @@
 -- `change::changed` meets its contract: G, n and the two sides of the moment each by one sum. Assumes nothing.
 -- c is in its range
-use borrow.Author.Rules.{rules}
 use mathlib.Core.Path.{◌≡◌, refl}
 use mathlib.Core.Bool.{true}
-use Prim.Native.Nat.{◌+◌, ◌-◌}
+use Prim.Native.Nat.{◌+◌}
 use native.Mathlib.Omega.{arith}
 use lib.IntN.{pos, ◌+ℤ◌, ◌-ℤ◌, ◌*ℤ◌}
 use mir.Facts.{to_z-of_z}

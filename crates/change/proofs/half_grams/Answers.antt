@@ -1,5 +1,4 @@
 -- `change::half_grams` meets its contract: the number is read back from its bits and doubled. Assumes nothing.
-use borrow.Author.Rules.{rules}
 use native.Mathlib.Omega.{arith}
 use lib.IntN.{pos, ◌*ℤ◌}
 use mir.Syntax.{w64}

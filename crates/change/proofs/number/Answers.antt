@@ -1,11 +1,9 @@
 -- `change::number` meets its contract: each way out by the law of what holds there. Assumes nothing.
-use borrow.Author.Rules.{rules}
 use mathlib.Core.Path.{◌≡◌, ◌∙◌, sym}
 use mathlib.Core.Bool.{true}
 use native.Mathlib.Omega.{arith}
 use lib.IntN.{pos, ◌+ℤ◌}
 use mir.Facts.{to_z-of_z}
-use Rattle.laws.specs.Tests.{failed, passed}
 use Rattle.paper.specs.Units.{is_arm}
 use Rattle.paper.specs.Record as paper
 use Rattle.paper.specs.Refusals.{is_total, is_non_lifting, is_change}

@@ -1,5 +1,4 @@
 -- `entries::length_of` meets its contract: the row's length, and the kind. Assumes nothing.
-use borrow.Author.Rules.{rules}
 use mathlib.Core.Path.{◌≡◌}
 use Prim.Native.Nat.{◌+◌}
 use native.Mathlib.Omega.{arith}

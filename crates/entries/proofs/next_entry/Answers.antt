@@ -1,7 +1,6 @@
 -- `entries::next_entry` meets its contract: by the kind that stands at the place, and each kind by its own function.
 -- Assumes nothing.
 use native.Mathlib.Omega.{arith}
-use borrow.Author.Rules.{rules}
 use mathlib.Core.Path.{refl}
 use Rattle.paper.specs.File.{layout_of}
 use Rattle.entries.proofs.Places.{at_end, kind_got, no_kind_got}

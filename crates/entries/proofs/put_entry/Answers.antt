@@ -4,7 +4,7 @@ use Prim.Native.Nat.{◌+◌}
 use native.Mathlib.Omega.{arith}
 use borrow.Author.Rules.{rules}
 use lib.ListN.{length, length-set}
-use Rattle.laws.specs.Written.{written, length-written, written_behind}
+use Rattle.laws.specs.Written.{written, written_behind}
 use Rattle.paper.specs.File.{entry_bytes}
 use Rattle.format.specs.Fields.{total}
 use Rattle.format.specs.Rows.{fields_of}

@@ -1,5 +1,4 @@
 -- `entries::seat_from` meets its contract, by how many bytes there are. Assumes nothing.
-use borrow.Author.Rules.{rules}
 use mathlib.Core.Path.{refl}
 use Rattle.paper.specs.File.{layout_of}
 use Rattle.paper.specs.Record.{is_none}

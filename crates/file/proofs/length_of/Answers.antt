@@ -1,9 +1,9 @@
 -- `file::length_of` meets its contract. The loop's invariant: the header and the first i entries are counted. Assumes nothing.
 use borrow.Author.Rules.{rules}
 use mathlib.Core.Path.{◌≡◌, sym, ap, ◌∙◌}
-use Prim.Native.Nat.{ℕ, ◌+◌, ◌-◌, ◌≤◌}
+use Prim.Native.Nat.{ℕ, ◌+◌}
 use native.Mathlib.Omega.{arith}
-use lib.ListN.{length, length-map}
+use lib.ListN.{length}
 use Rattle.paper.specs.Rows.{joined}
 use Rattle.record.specs.Held.{slotted}
 use Rattle.file.proofs.Slots.{bytes_to, counted, one_entry, bytes_most}

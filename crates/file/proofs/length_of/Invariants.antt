@@ -1,12 +1,8 @@
 -- `file::length_of` meets its contract. The loop's invariant: the header and the first i entries are counted. Assumes nothing.
-use mathlib.Core.Path.{◌≡◌, sym, ap, ◌∙◌}
-use Prim.Native.Nat.{ℕ, ◌+◌, ◌-◌, ◌≤◌}
-use native.Mathlib.Omega.{arith}
-use lib.ListN.{length, length-map}
-use Rattle.paper.specs.Rows.{joined}
-use Rattle.record.specs.Held.{slotted}
-use Rattle.file.proofs.Slots.{bytes_to, counted, one_entry, bytes_most}
-use Rattle.stored.proofs.Parts.{file_size}
+use mathlib.Core.Path.{◌≡◌}
+use Prim.Native.Nat.{◌+◌, ◌-◌, ◌≤◌}
+use lib.ListN.{length}
+use Rattle.file.proofs.Slots.{bytes_to}
 use Rattle.file.proofs.length_of.Given as goal
 
 abbrev pub invariant-loop-i : goal.invariant-loop-i

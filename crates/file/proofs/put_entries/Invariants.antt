@@ -1,14 +1,10 @@
 -- `file::put_entries` meets its contract. The loop's invariant: the first i entries are written, and `at` is behind them.
 -- Assumes nothing.
-use mathlib.Core.Path.{◌≡◌, refl, sym, ap, ◌∙◌}
-use Prim.Native.Nat.{ℕ, ◌+◌, ◌-◌, ◌≤◌}
-use native.Mathlib.Omega.{arith}
-use lib.ListN.{length, length-map}
-use Rattle.laws.specs.Written.{written, written_none, length-written}
-use Rattle.paper.specs.Rows.{joined}
-use Rattle.record.specs.Held.{slotted}
-use Rattle.file.proofs.Slots.{bytes_to, bytes-part, within, put-more, counted}
-use Rattle.stored.proofs.Parts.{file_size}
+use mathlib.Core.Path.{◌≡◌}
+use Prim.Native.Nat.{◌+◌, ◌-◌, ◌≤◌}
+use lib.ListN.{length}
+use Rattle.laws.specs.Written.{written}
+use Rattle.file.proofs.Slots.{bytes_to}
 use Rattle.file.proofs.put_entries.Given as goal
 
 abbrev pub invariant-loop-i : goal.invariant-loop-i

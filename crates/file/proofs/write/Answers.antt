@@ -1,6 +1,5 @@
 -- `file::write` meets its contract: the record replayed is that of its list, so what is measured and put is the list's file.
 -- Assumes nothing.
-use borrow.Author.Rules.{rules}
 use mathlib.Core.Path.{◌≡◌, sym, ap, ◌∙◌}
 use Prim.Native.Nat.{ℕ, ◌≤◌}
 use native.Mathlib.Omega.{arith}

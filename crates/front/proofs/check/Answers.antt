@@ -1,5 +1,4 @@
 -- `front::check` meets its contract, by what the buffer holds. Assumes nothing.
-use borrow.Author.Rules.{rules}
 use Rattle.front.proofs.Answers.{no_file, a_file}
 use Rattle.front.proofs.check.Goals as goal
 

@@ -1,8 +1,5 @@
 -- `front::front` meets its contract: the bytes that the length speaks of, or all where there are fewer. Assumes nothing.
-use borrow.Author.Rules.{rules}
-use mathlib.Core.Path.{sym}
 use native.Mathlib.Omega.{arith}
-use lib.Seq.{length-take-le}
 use Rattle.front.proofs.Fronts.{all_of_it, front_of}
 use Rattle.front.proofs.front.Goals as goal
 

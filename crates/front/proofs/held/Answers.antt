@@ -1,5 +1,4 @@
 -- `front::held` meets its contract: what is found in the front is what the buffer holds. Assumes nothing.
-use borrow.Author.Rules.{rules}
 use Rattle.front.specs.Front.{held_in}
 use Rattle.front.proofs.held.Goals as goal
 

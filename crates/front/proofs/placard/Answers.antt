@@ -1,9 +1,6 @@
 -- `front::placard` meets its contract: what stands and what is in force are those of the list that the buffer holds.
 -- Assumes nothing.
-use borrow.Author.Rules.{rules}
 use mathlib.Core.Path.{sym, ◌∙◌}
-use mathlib.Core.List.{List}
-use Prim.Native.Nat.{ℕ}
 use native.Mathlib.Omega.{arith}
 use lib.ListN.{length}
 use Rattle.seat.proofs.Lists.{force_accepted}

@@ -1,6 +1,5 @@
 -- `layout::weighing_words` meets its contract: its fields in the table's order, signed ones as words. Assumes nothing.
 use mir.Syntax.{w64}
-use borrow.Author.Rules.{rules}
 use mir.Facts.{to_z-of_z}
 use Rattle.paper.specs.File.{layout_of}
 use Rattle.format.specs.Fields.{words_by}

@@ -1,6 +1,5 @@
 -- `lent::add` meets its contract: the entry gets its number by what stands, and one without is put behind the file.
 -- Assumes nothing.
-use borrow.Author.Rules.{rules}
 use mathlib.Core.Path.{◌≡◌, sym, ap, ◌∙◌}
 use mathlib.Core.List.{List}
 use Prim.Native.Nat.{ℕ}
@@ -11,7 +10,7 @@ use Rattle.judge.proofs.Judging.{room_of}
 use Rattle.stored.specs.declared.Stored.TheVariants.{File}
 use Rattle.stored.specs.Found.{Finds}
 use Rattle.stored.proofs.Parts.{file_size}
-use Rattle.stored.proofs.Walks.{sound_in, number_in}
+use Rattle.stored.proofs.Walks.{number_in}
 use Rattle.front.specs.Front.{held_in}
 use Rattle.lent.specs.Lent.{lent_file}
 use Rattle.front.proofs.Fronts.{held_file, held_room}

@@ -1,5 +1,4 @@
 -- `lent::append` meets its contract: the entry is put behind the file, and the header says so. Assumes nothing.
-use borrow.Author.Rules.{rules}
 use native.Mathlib.Omega.{arith}
 use Rattle.lent.proofs.Answers.{entry_short, entry_added}
 use Rattle.lent.proofs.append.Goals as goal

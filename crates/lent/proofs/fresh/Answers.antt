@@ -1,5 +1,4 @@
 -- `lent::fresh` meets its contract: the header is all of the file. Assumes nothing.
-use borrow.Author.Rules.{rules}
 use Rattle.lent.proofs.Answers.{fresh_short, fresh_put}
 use Rattle.lent.proofs.fresh.Goals as goal
 

@@ -1,7 +1,6 @@
 -- `lent::read` meets its contract: the bytes are a file, and are copied but for the version. Assumes nothing.
 use Rattle.std.proofs.Common.{ap, sym, ◌∙◌, ◌++◌, ℕ, List, length, drop, take_all}
 use Rattle.laws.specs.Written.{written_first}
-use borrow.Author.Rules.{rules}
 use mathlib.Core.Path.{◌≡◌}
 use mathlib.Core.List.{List}
 use mathlib.Core.Option.{some}

@@ -1,5 +1,4 @@
 -- `lent::undo` meets its contract: the header of one entry less. Assumes nothing.
-use borrow.Author.Rules.{rules}
 use native.Mathlib.Omega.{arith}
 use mathlib.Core.List.{List}
 use Prim.Native.Nat.{ℕ}

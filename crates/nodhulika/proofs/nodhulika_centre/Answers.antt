@@ -1,6 +1,5 @@
 -- `nodhulika::nodhulika_centre` meets its contract: what `lent::centre` answers, and its numbers in bytes. Assumes nothing.
 use mir.Syntax.{w64}
-use borrow.Author.Rules.{rules}
 use mathlib.Core.Path.{ap, ◌∙◌, refl}
 use native.Mathlib.Omega.{arith}
 use lib.IntN.{pos}

@@ -1,5 +1,4 @@
 -- `nodhulika::nodhulika_change` meets its contract: it is what `lent::add` says of the change that the numbers make. Assumes nothing.
-use borrow.Author.Rules.{rules}
 use mir.Facts.{to_z-of_z}
 use Rattle.paper.specs.Journal.{call_of}
 use Rattle.nodhulika.proofs.nodhulika_change.Goals as goal

@@ -1,5 +1,4 @@
 -- `nodhulika::nodhulika_placard` meets its contract: what `lent::placard` answers, and its counts in bytes. Assumes nothing.
-use borrow.Author.Rules.{rules}
 use mathlib.Core.Path.{refl}
 use native.Mathlib.Omega.{arith}
 use Rattle.nodhulika.proofs.Into.{answered, counts_short, placard_refused_lem, placard_given_lem}

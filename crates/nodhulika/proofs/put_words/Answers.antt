@@ -1,5 +1,4 @@
 -- `nodhulika::put_words` meets its contract: one word behind the other. Assumes nothing.
-use borrow.Author.Rules.{rules}
 use Rattle.nodhulika.proofs.Into.{three_put}
 use Rattle.nodhulika.proofs.put_words.Goals as goal
 

@@ -1,5 +1,4 @@
 -- `reading::bad_distance` meets its contract: each way out computes the tests so far. Assumes nothing.
-use borrow.Author.Rules.{rules}
 use borrow.Author.Tests.{lt-leb, le-leb}
 use mathlib.Core.Path.{◌≡◌, sym}
 use mathlib.Core.Bool.{or-true}

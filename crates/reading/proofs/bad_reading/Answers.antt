@@ -1,5 +1,4 @@
 -- `reading::bad_reading` meets its contract: each way out by the law of its method. Assumes nothing.
-use borrow.Author.Rules.{rules}
 use mathlib.Core.Path.{sym, ◌∙◌}
 use native.Mathlib.Omega.{arith}
 use Rattle.reading.proofs.Conditions.{p_over, q_over, method_1, method_2, method_3, method_4, no_method}

@@ -1,5 +1,4 @@
 -- `reading::reckoned` meets its contract: G by `total`, M by `moment_of`, n as given. Assumes nothing.
-use borrow.Author.Rules.{rules}
 use borrow.Author.Tests.{ltb-false}
 use mathlib.Core.Path.{refl, sym, ◌∙◌}
 use Rattle.reading.proofs.Conditions.{n_test}

@@ -1,5 +1,4 @@
 -- `record::add` meets its contract: the list that the record holds settles the number and the record. Assumes nothing.
-use borrow.Author.Rules.{rules}
 use mathlib.Core.Path.{sym, ◌∙◌, ap}
 use mathlib.Core.List.{[], ◌∷◌, ◌++◌}
 use Prim.Native.Nat.{◌<◌}

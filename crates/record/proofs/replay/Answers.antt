@@ -2,15 +2,15 @@
 -- what is left of the slots. Assumes nothing.
 use borrow.Author.Rules.{rules}
 use borrow.Author.Tests.{ltb-true, ltb-false}
-use mathlib.Core.Path.{◌≡◌, refl, sym, ◌∙◌}
+use mathlib.Core.Path.{◌≡◌, refl}
 use mathlib.Core.List.{[]}
-use Prim.Native.Nat.{◌-◌, ◌≤◌, ◌<◌}
+use Prim.Native.Nat.{◌<◌}
 use native.Mathlib.Omega.{arith}
-use lib.ListN.{length, replicate, length-map}
+use lib.ListN.{length, replicate}
 use Rattle.judge.proofs.Judging.{room_of}
 use Rattle.paper.specs.Refusals.{capacity}
-use Rattle.record.specs.Held.{record_of, replayed, ReplayedAs}
-use Rattle.record.proofs.Replays.{held_to, held_ended, held_out, begun, one_more, stands_at, passed_over_lem, gone_on}
+use Rattle.record.specs.Held.{record_of, replayed}
+use Rattle.record.proofs.Replays.{held_ended, held_out, begun, one_more, stands_at, passed_over_lem, gone_on}
 use Rattle.record.proofs.replay.Goals as goal
 
 pub loop-i-init : goal.loop-i-init

@@ -1,16 +1,9 @@
 -- `record::replay` meets its contract. The loop's invariant: the entries of the slots passed are replayed; the measure is
 -- what is left of the slots. Assumes nothing.
-use borrow.Author.Rules.{rules}
-use borrow.Author.Tests.{ltb-true, ltb-false}
-use mathlib.Core.Path.{◌≡◌, refl, sym, ◌∙◌}
-use mathlib.Core.List.{[]}
-use Prim.Native.Nat.{◌-◌, ◌≤◌, ◌<◌}
-use native.Mathlib.Omega.{arith}
-use lib.ListN.{length, replicate, length-map}
-use Rattle.judge.proofs.Judging.{room_of}
+use Prim.Native.Nat.{◌-◌, ◌≤◌}
 use Rattle.paper.specs.Refusals.{capacity}
-use Rattle.record.specs.Held.{record_of, replayed, ReplayedAs}
-use Rattle.record.proofs.Replays.{held_to, held_ended, held_out, begun, one_more, stands_at, passed_over_lem, gone_on}
+use Rattle.record.specs.Held.{ReplayedAs}
+use Rattle.record.proofs.Replays.{held_to}
 use Rattle.record.proofs.replay.Given as goal
 
 abbrev pub invariant-loop-i : goal.invariant-loop-i

@@ -1,5 +1,4 @@
 -- `stored::entry_to` meets its contract, by what is read and its kind. Assumes nothing.
-use borrow.Author.Rules.{rules}
 use mathlib.Core.Path.{sym, ◌∙◌}
 use native.Mathlib.Omega.{arith}
 use Rattle.stored.proofs.Reading.{none_to, later_to, kept_to}

@@ -1,11 +1,9 @@
 -- `stored::survey` meets its contract: by the header, and behind it by the entries. Assumes nothing.
 -- the slice is one of bytes
-use borrow.Author.Rules.{rules}
 use mathlib.Core.Path.{◌≡◌, sym, ◌∙◌}
 use mathlib.Core.Bool.{true}
 use native.Mathlib.Omega.{arith}
 use lib.Pow.{are_bytes}
-use Rattle.laws.specs.Tests.{failed, passed}
 use Rattle.format.specs.Numbers.{bytes_at}
 use Rattle.header.specs.Header.{headed}
 use Rattle.header.proofs.Judging.{enough_bytes}

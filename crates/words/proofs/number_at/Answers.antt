@@ -1,6 +1,6 @@
 -- `words::number_at` meets its contract. The loop's invariant: n is the number of the i bytes passed, and below what i bytes
 -- can spell; the measure is what is left of the width. Assumes nothing.
-use Rattle.std.proofs.Common.{◌≡◌, ℕ, ◌+◌, ◌-◌, ◌^◌, ◌<◌, ◌≤◌, get_or, take, drop, refl, ap, ◌∙◌, arith}
+use Rattle.std.proofs.Common.{◌+◌, get_or, refl, arith}
 use Rattle.paper.specs.File.{number_of}
 use Rattle.words.proofs.Turns.{read_more, below_more, below_four}
 use Rattle.words.proofs.number_at.Goals as goal

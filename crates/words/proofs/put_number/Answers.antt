@@ -1,7 +1,7 @@
 -- `words::put_number` meets its contract. The loop's invariant: the bytes from `left` on are written, and `rest` is the number
 -- without them; the measure is `left`. Assumes nothing.
-use Rattle.std.proofs.Common.{◌≡◌, ◌-◌, ◌/◌, ◌^◌, ◌≤◌, length, ap, ◌∙◌, arith}
-use Rattle.laws.specs.Spelled.{rest_none, rest_more, put_from, put_none, put-length, put-more, put_all}
+use Rattle.std.proofs.Common.{arith}
+use Rattle.laws.specs.Spelled.{rest_none, rest_more, put_none, put-more}
 use Rattle.format.specs.Numbers.{bytes}
 use Rattle.words.proofs.put_number.Goals as goal
 

@@ -1,5 +1,4 @@
 -- `record::Record::adjust_seat` meets its contract: it is what `add` says of the entry. Assumes nothing.
-use borrow.Author.Rules.{rules}
 use Rattle.paper.specs.Refusals.{entry_number}
 use Rattle.paper.specs.Journal.{call_number, accepted_call}
 use Rattle.record.specs.Held.{answered}

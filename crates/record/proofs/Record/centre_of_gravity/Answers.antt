@@ -1,9 +1,7 @@
 -- `record::Record::centre_of_gravity` meets its contract: what stands is the balance of the list that the record holds.
 -- Assumes nothing.
-use borrow.Author.Rules.{rules}
 use native.Mathlib.Omega.{arith}
 use Rattle.judge.proofs.Judging.{grown}
-use Rattle.record.specs.Held.{held_by}
 use Rattle.record.proofs.Replays.{held_most}
 use Rattle.record.proofs.Record.centre_of_gravity.Goals as goal
 

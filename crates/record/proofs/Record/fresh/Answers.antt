@@ -1,5 +1,4 @@
 -- `record::Record::fresh` meets its contract: each of the slots is unused. Assumes nothing.
-use borrow.Author.Rules.{rules}
 use Rattle.record.specs.Held.{record_of}
 use Rattle.record.proofs.Record.fresh.Goals as goal
 

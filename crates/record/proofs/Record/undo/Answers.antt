@@ -1,5 +1,4 @@
 -- `record::Record::undo` meets its contract: the list that the record holds is bare, or loses its last. Assumes nothing.
-use borrow.Author.Rules.{rules}
 use mathlib.Core.Path.{sym, ◌∙◌, ap}
 use Prim.Native.Nat.{◌≤◌}
 use native.Mathlib.Omega.{arith}
