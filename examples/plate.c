@@ -3,7 +3,7 @@
  * is fitted (case H) and taken back, and the glider is weighed once more with
  * the scales read twice; the placard is printed each time.
  *
- * To compile, at the top of the repository, once `rt staticlib nodhulika` has
+ * To compile, at the top of the repository, once `tools/build.sh library` has
  * built the archive:
  *
  *   cc -std=c99 -Wall -Wextra -Iinclude examples/plate.c target/staticlib/libnodhulika.a -o target/plate

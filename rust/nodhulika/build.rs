@@ -8,7 +8,7 @@ const ARCHIVE: &str = "libnodhulika.a";
 const OVERRIDE: &str = "NODHULIKA_LIB_DIR";
 
 /// Where the archive is looked for: where the caller says, else where
-/// `rt staticlib nodhulika` puts it, at the top of the repository.
+/// `tools/build.sh library` puts it, at the top of the repository.
 fn folder() -> PathBuf {
     if let Some(folder) = env::var_os(OVERRIDE) {
         return PathBuf::from(folder);
@@ -27,7 +27,7 @@ fn main() -> ExitCode {
     println!("cargo:rerun-if-changed={}", archive.display());
     if !archive.is_file() {
         eprintln!("error: there is no {}", archive.display());
-        eprintln!("Run `rt staticlib nodhulika` at the top of the repository, which builds it,");
+        eprintln!("Run `tools/build.sh library` at the top of the repository, which builds it,");
         eprintln!("or set {OVERRIDE} to the folder that holds {ARCHIVE}, by its whole path.");
         return ExitCode::FAILURE;
     }
