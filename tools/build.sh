@@ -22,7 +22,8 @@ counted)
     program counted counted
     ;;
 library)
-    (cd crates/nodhulika_c && rt lib)
+    # by the compiler that is written in Rattle: what LLVM makes calls memset, which a handheld may lack
+    (cd crates/nodhulika_c && rt lib --backend rattle)
     mkdir -p target/staticlib
     cp crates/nodhulika_c/out/libnodhulika_c.a target/staticlib/libnodhulika.a
     ;;
