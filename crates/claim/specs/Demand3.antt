@@ -1,15 +1,16 @@
--- Demand 3's conclusion, whole: what holds of every list of calls and a placard asked for after it. RecordCalls.antt shows it
--- of the calls on a record, LibraryCalls.antt of the library to link; each has the lists of calls as they run.
+-- Demand 3's conclusion, whole: what holds of every list of calls and a placard asked for after it. proofs/RecordCalls.antt
+-- shows it of the calls on a record, proofs/LibraryCalls.antt of the library to link; the files of these names beside this one
+-- have the lists of calls as they run.
 --
 -- It speaks of a journal (the numbers that its calls get, and its entries), of what the calls answered, and of the buffer
 -- as lent and as left. No record is in it. The definitions that it rests on are those of crates/paper/specs:
 --   Record    weighing_stands, sheet_stands
---             balance_of, sheet_of, seat_of, ends_of                    G, M and n, the sheet and the seat in force, of a journal; the
---                                                                   two ends that the arm of a front load lies between
+--             balance_of, sheet_of, seat_of, ends_of              G, M and n, the sheet and the seat in force, of a journal; the
+--                                                                 two ends that the arm of a front load lies between
 --   Rows      row_count, rear_of, water_of, row, is_step, keeps, breaks_at, every_arm, some_arm, in_range, is_blank
 --   Placard   text_length, blank_count, text, line_in, ReadAs
 --   Refusals  placard_too_long, placard_number
---   Answers   placard_answer, over                                   over: bytes written into a buffer, those behind them stay
+--   Answers   placard_answer, over                                over: bytes written into a buffer, those behind them stay
 -- Assumes nothing.
 use Rattle.std.specs.Prelude.{◌≡◌, true, false, not, ◌&&◌, List, ℕ, ◌≤◌, ◌<◌, eqb, ℤ, length}
 use Rattle.std.proofs.Common.{sym, ap, ◌∙◌}

@@ -1,5 +1,5 @@
--- Demand 3 of the library to link: one claim about every list of its calls on a lent buffer and a placard asked for after it, and
--- that the claim is not empty.
+-- Demand 3 of the library to link: every list of its calls on a lent buffer as it runs, what it leaves, what is demanded of a
+-- placard asked for after it, and that every list runs. The claim itself is demand_3 (crates/claim/proofs: LibraryCalls).
 --
 -- The hypotheses are the functions' own promises and nothing else: `weigh.Post` is what the contract of `nodhulika_weigh` in
 -- crates/nodhulika/src/lib.rt promises of one call, and so with the others; `o.now` are the bytes of a slice. The conclusion is
@@ -8,11 +8,9 @@
 -- shows that with 3,910 bytes it is the journal itself. Assumes nothing.
 use Rattle.std.specs.Prelude.{◌≡◌, not, ◌&&◌, ℤ}
 use Rattle.std.proofs.Math.Path.{refl, ap}
-use Rattle.std.proofs.Common.{sym, ◌∙◌, true≢false, mul-pos, lt-ltb, le-ltb}
+use Rattle.std.proofs.Common.{sym, ◌∙◌, true≢false, mul-pos, lt-ltb}
 use mathlib.Core.List.{List, [], ◌∷◌, ◌++◌, append_assoc, append-nil}
-use Rattle.std.proofs.Math.Option.{some}
 use Prim.Native.Nat.{ℕ, ◌+◌, ◌/◌, ◌≤◌, ◌<◌}
-use Rattle.std.proofs.Math.Decide.{dec_le}
 use native.Mathlib.Omega.{arith}
 use Rattle.std.proofs.Math.ListN.{length}
 use Rattle.std.specs.Borrow.{Bor, MutBor}
@@ -32,9 +30,8 @@ use Rattle.paper.specs.Placard.{text_length}
 use Rattle.paper.specs.Refusals.{placard_too_long}
 use Rattle.paper.specs.Answers.{placard_answer}
 use Rattle.format.specs.Files.{file_length}
-use Rattle.front.specs.Front.{held_in, placard_for}
+use Rattle.front.specs.Front.{held_in}
 use Rattle.lent.specs.Lent.{lent_file, lent_call, lent_read, number_in, journal_in, numbers_in}
-use Rattle.front.proofs.Fronts.{held_accepted}
 use Rattle.lent.proofs.Answers.{file_put}
 use Rattle.nodhulika.specs.Exported.{answer_length, counts_over, placard_into}
 use Rattle.nodhulika.proofs.nodhulika_fresh.Reads as fresh
@@ -49,7 +46,7 @@ use Rattle.nodhulika.proofs.nodhulika_placard.Reads as placard
 use Rattle.claim.specs.Buffers.{Holds, Leaves, fresh_leaves, call_leaves, read_leaves}
 use Rattle.claim.specs.Calls.{journal-more, numbers_more}
 use Rattle.claim.specs.Endings.{Ending, refused, printed, ending}
-use Rattle.claim.specs.Demand3.{Demand3, demanded}
+use Rattle.claim.specs.Demand3.{Demand3}
 use Rattle.claim.specs.RecordCalls.{slice_of, buffer_of}
 
 -- the arguments of a call behind its buffer, which it leaves as they are
@@ -92,7 +89,7 @@ pub data Trace : ℕ → List Call → List ℕ → List ℕ → Type 0 where
 -- ---- what such a list leaves
 
 -- the buffer holds the journal of the calls, and the numbers answered are the journal's
-record Follows (n : ℕ) (calls : List Call) (buffer answers : List ℕ) : Type 0 where
+pub record Follows (n : ℕ) (calls : List Call) (buffer answers : List ℕ) : Type 0 where
   pub holds : Holds n (journal_in n calls) buffer
   pub numbers : answers ≡ numbers_in n calls
 
@@ -119,7 +116,7 @@ read_back : {n : ℕ} {calls : List Call} {buffer answers : List ℕ} (xs : List
 read_back {n} {calls} {buffer} xs k before left f b e =
     one_more (journal.read xs) k left (lent_read xs buffer) f (rw b at e) (read_leaves n (journal_in n calls) buffer f.holds xs)
 
-follows : {n : ℕ} {calls : List Call} {buffer answers : List ℕ} → Trace n calls buffer answers → Follows n calls buffer answers
+pub follows : {n : ℕ} {calls : List Call} {buffer answers : List ℕ} → Trace n calls buffer answers → Follows n calls buffer answers
 follows (from_fresh κs o o' h) = none_yet o.now o'.now h
 follows (then_weigh t w κs o o' k b h) = called (journal.weigh w) k o.now o'.now (follows t) b h
 follows (then_pair t x κs o o' k b h) = called (journal.pair x) k o.now o'.now (follows t) b h
@@ -136,7 +133,7 @@ some_rows : (s : Sheet) → 0 < text_length s
 unfolding text_length row_count
 some_rows s = omega (arith, mul-pos {m = s.rear.most / s.rear.step + 1} {n = s.water.most / s.water.step + 1} (omega arith) (omega arith))
 
-nothing_left : (es : List Entry) → [] ≡ (placard_answer es []).1
+pub nothing_left : (es : List Entry) → [] ≡ (placard_answer es []).1
 unfolding placard_too_long
 nothing_left es = by (ending es [])
   where
@@ -154,42 +151,6 @@ pub record LibraryDemand3 (n : ℕ) (calls : List Call) (answers lent counts : L
   pub its_number : number ≡ answer.number
   pub with-room : answer_length ≤ length counts → Demand3 (numbers_in n calls) (journal_in n calls) answers lent answer left × (counts_left ≡ counts_over answer counts)
   pub without : length counts < answer_length → Demand3 (numbers_in n calls) (journal_in n calls) answers [] answer [] × (left ≡ lent) × (counts_left ≡ counts)
-
-module _ (n : ℕ) (calls : List Call) (buffer answers : List ℕ) (f : Follows n calls buffer answers) (lent counts : List ℕ) (number : ℕ) (left counts_left : List ℕ) where
-  demanded_of : (out rest : List ℕ) (a : Placard) → a ≡ (placard_answer (journal_in n calls) out).0 → rest ≡ (placard_answer (journal_in n calls) out).1 → Demand3 (numbers_in n calls) (journal_in n calls) answers out a rest
-  demanded_of out rest a = demanded (numbers_in n calls) (journal_in n calls) (held_accepted buffer (journal_in n calls) f.holds.list) answers out a rest f.numbers
-
-  by_counts : (number, left, counts_left) ≡ placard_into (some (journal_in n calls)) lent counts → LibraryDemand3 n calls answers lent counts number left counts_left
-  unfolding placard_into placard_for
-  by_counts e =
-      let es = journal_in n calls in
-      elim (dec_le answer_length (length counts)) as (λ d. LibraryDemand3 n calls answers lent counts number left counts_left) [
-        | yes h ↦
-            let p = rw (le-ltb (length counts) answer_length h) at e in
-            record {
-              answer = (placard_answer es lent).0;
-              its_number = ap (λ (q : ℕ × List ℕ × List ℕ). q.0) p;
-              with-room = λ k. (demanded_of lent left (placard_answer es lent).0 refl (ap (λ (q : ℕ × List ℕ × List ℕ). q.1) p), ap (λ (q : ℕ × List ℕ × List ℕ). q.2) p);
-              without = λ k. absurd (omega arith);
-            }
-        | no h ↦
-            let short : length counts < answer_length = omega arith in
-            let p = rw (lt-ltb (length counts) answer_length short) at e in
-            record {
-              answer = (placard_answer es []).0;
-              its_number = ap (λ (q : ℕ × List ℕ × List ℕ). q.0) p;
-              with-room = λ k. absurd (omega arith);
-              without = λ k. (demanded_of [] [] (placard_answer es []).0 refl (nothing_left es), ap (λ (q : ℕ × List ℕ × List ℕ). q.1) p, ap (λ (q : ℕ × List ℕ × List ℕ). q.2) p);
-            }
-      ]
-
--- For every list of calls, however it ran, and every placard call after it, on buffers of any length and content.
-pub demand_3 : {n : ℕ} {calls : List Call} {buffer answers : List ℕ} → Trace n calls buffer answers
-    → (κs : _) (i i' : Bor (List ℕ)) (o o' c c' : MutBor (List ℕ)) (k : ℕ) → i.now ≡ buffer → placard.Post κs (i, (o, (c, tt))) k (i', (o', (c', tt)))
-    → LibraryDemand3 n calls answers o.now c.now k o'.now c'.now
-demand_3 {n} {calls} {buffer} {answers} t κs i i' o o' c c' k b call =
-    let f = follows t in
-    by_counts n calls buffer answers f o.now c.now k o'.now c'.now (rw (b, f.holds.list) at call)
 
 -- ---- it is not empty
 

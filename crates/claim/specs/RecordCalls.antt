@@ -1,5 +1,5 @@
--- Demand 3 of the calls on a record: one claim about every list of them and a placard asked for after it, and that the claim is
--- not empty.
+-- Demand 3 of the calls on a record: every list of them as it runs, what it leaves, and that every list runs. The claim about
+-- them and a placard asked for after them is demand_3 (crates/claim/proofs: RecordCalls).
 --
 -- The hypotheses are the calls' own promises and nothing else: `weigh.Post` is what the contract of `Record::weigh` in
 -- crates/record/src/lib.rt promises of one call (its arguments, its answer, the arguments as it leaves them), and so with the
@@ -20,7 +20,6 @@ use Rattle.paper.specs.Answers.{placard_answer}
 use Rattle.record.specs.declared.Record.{Record}
 use Rattle.record.specs.declared.Kept.{Kept}
 use Rattle.record.specs.Held.{record_of, held_by, answered}
-use Rattle.record.proofs.Replays.{held_accepted}
 use Rattle.record.proofs.Record.fresh.Reads as fresh
 use Rattle.record.proofs.Record.weigh.Reads as weigh
 use Rattle.record.proofs.Record.weigh_paired.Reads as pair
@@ -31,7 +30,6 @@ use Rattle.record.proofs.Record.undo.Reads as undo
 use Rattle.file.proofs.read.Reads as read
 use Rattle.plate.proofs.placard.Reads as placard
 use Rattle.claim.specs.Calls.{Follows, none_yet, one_more}
-use Rattle.claim.specs.Demand3.{Demand3, demanded}
 
 -- A list of calls as it runs: the calls in their order, the record that the last one returned, the number that each answered.
 -- The first gets a fresh record, each later one the record returned before it; refused calls are calls like the others.
@@ -61,14 +59,6 @@ follows (then_change t x k h) = one_more (journal.change x) k (follows t) h
 follows (then_seat t f k h) = one_more (journal.seat f) k (follows t) h
 follows (then_undo t k h) = one_more journal.undo k (follows t) h
 follows (then_read t κs i i' k h) = one_more (journal.read i.now) k (follows t) h
-
--- For every list of calls, however it ran, and every placard call after it, on a buffer of any length and content.
-pub demand_3 : {calls : List Call} {r : Record} {answers : List ℕ} → Trace calls r answers
-    → (κs : _) (o o' : MutBor (List ℕ)) (a : Placard) → placard.Post κs (r, (o, tt)) a (r, (o', tt))
-    → Demand3 (numbers calls) (journal calls) answers o.now a o'.now
-demand_3 {calls} {r} {answers} t κs o o' a call =
-    let f = follows t in
-    demanded (numbers calls) (journal calls) (rw f.list at (held_accepted r)) answers o.now a o'.now f.numbers (rw f.list at call.0) (rw f.list at call.1)
 
 -- ---- it is not empty
 

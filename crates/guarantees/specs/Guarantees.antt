@@ -63,8 +63,10 @@ use Rattle.worked.specs.Table.{table, Says, a_to_k}
 use Rattle.claim.specs.Demand3 as claim
 use Rattle.claim.specs.Demand3.{Demand3, EachReading}
 use Rattle.claim.specs.RecordCalls as on-record
+use Rattle.claim.proofs.RecordCalls as record-claim
 use Rattle.claim.specs.Buffers.{call_renewed, read_renewed, room_for_all}
 use Rattle.claim.specs.LibraryCalls as of-library
+use Rattle.claim.proofs.LibraryCalls as library-claim
 use Rattle.claim.specs.Records as records
 use Rattle.claim.specs.Carrying.{Carrying, row_moment, every_row_carried}
 
@@ -74,7 +76,7 @@ use Rattle.claim.specs.Carrying.{Carrying, row_moment, every_row_carried}
 pub demand_3 : {calls : List Call} {r : Record} {answers : List ℕ} → on-record.Trace calls r answers
     → (κs : _) (o o' : MutBor (List ℕ)) (a : Placard) → placard.Post κs (r, (o, tt)) a (r, (o', tt))
     → Demand3 (numbers calls) (journal calls) answers o.now a o'.now
-demand_3 = on-record.demand_3
+demand_3 = record-claim.demand_3
 
 -- It is about something: every list of calls has a trace, and a placard call after it.
 pub every_list_runs : (calls : List Call) (lent : List ℕ) → on-record.Run calls lent
@@ -184,7 +186,7 @@ shown_then_read {r = r} t = read_again.shown_then_read r (on-record.follows t).m
 pub library_demand_3 : {n : ℕ} {calls : List Call} {buffer answers : List ℕ} → of-library.Trace n calls buffer answers
     → (κs : _) (i i' : Bor (List ℕ)) (o o' c c' : MutBor (List ℕ)) (k : ℕ) → i.now ≡ buffer → library-placard.Post κs (i, (o, (c, tt))) k (i', (o', (c', tt)))
     → of-library.LibraryDemand3 n calls answers o.now c.now k o'.now c'.now
-library_demand_3 = of-library.demand_3
+library_demand_3 = library-claim.demand_3
 
 -- With room for every file, which 3,910 bytes are, it is the journal itself.
 pub with-room_the_journal : (n : ℕ) → 3910 ≤ n → (calls : List Call) → (numbers_in n calls ≡ numbers calls) × (journal_in n calls ≡ journal calls)

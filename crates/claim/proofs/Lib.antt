@@ -1,0 +1,2 @@
+pub mod RecordCalls
+pub mod LibraryCalls
