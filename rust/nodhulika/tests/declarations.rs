@@ -21,7 +21,7 @@ fn text_of(path: &str) -> String {
 }
 
 fn rattle() -> String {
-    text_of("crates/nodhulika/src/lib.rt")
+    text_of("crates/nodhulika_c/src/lib.rt")
 }
 
 fn header() -> String {
