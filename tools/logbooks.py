@@ -13,7 +13,11 @@ import plates
 from oracle import Change, Paired, Seat, Sheet, Weighing, add, centre_of_gravity, file_of, placard, read, undo
 from oracle import HALVES, SIGNED
 
-SAMPLES = Path(__file__).parent.parent / "samples"
+ROOT = Path(__file__).parent.parent
+SAMPLES = ROOT / "samples"
+
+# The program `logbooks` runs with a copy of the samples, since no link may stand in the repository.
+COPY = ROOT / "crates" / "logbooks" / "data"
 NAMES = {"weighing": Weighing, "sheet": Sheet, "change": Change, "paired": Paired, "seat": Seat}
 NAME_OF = {kind: name for name, kind in NAMES.items()}
 SHORT = 160
@@ -322,6 +326,8 @@ def cases_taken():
 
 
 def placards():
-    """The samples' placards, beside them."""
+    """The samples' placards, beside them, and the copy of all samples."""
     for name in IN_TURN:
         (SAMPLES / f"{name}.placard").write_bytes(plate_of(name)[2])
+    for path in SAMPLES.iterdir():
+        (COPY / path.name).write_bytes(path.read_bytes())

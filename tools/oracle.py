@@ -7,7 +7,7 @@
     python3 tools/oracle.py logbooks > crates/logbooks/stdout
     python3 tools/oracle.py logbook-cases > crates/logbooks/stdin
     python3 tools/oracle.py sample-placards    (writes samples/*.placard)
-    python3 tools/oracle.py programs    (writes stdin and stdout of placard, full_file, long_file, full_plate, show, logbook)
+    python3 tools/oracle.py programs    (writes stdin and stdout of placard, full_file, long_file, full_plate, show, logbook_to_record)
 
 A journal is the tuple of the entries accepted so far. A call takes a journal and answers its number, 0 where it is
 accepted, and the journal afterwards.

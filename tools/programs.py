@@ -1,6 +1,7 @@
-"""What the programs `placard`, `show` and `logbook` take and must print, by the oracle's reckoning: case G, the longest file,
-one byte more, and a placard of 256 rows, from a file of version 1. `full_file`, `long_file` and `full_plate` are `placard` on
-other input. `show` has every kind of entry, and `logbook` makes the longest file, with seats taken back on the way."""
+"""What the programs `placard`, `show` and `logbook_to_record` take and must print, by the oracle's reckoning: case G, the longest
+file, one byte more, and a placard of 256 rows, from a file of version 1. `full_file`, `long_file` and `full_plate` are `placard`
+on other input. `show` has every kind of entry, and `logbook_to_record` makes the longest file, with seats taken back on the
+way."""
 
 from pathlib import Path
 
@@ -50,7 +51,7 @@ def write():
     full = file_of(SHEETS)
     taken = {"placard": file_of(G), "full_file": full, "long_file": full + b"\0", "full_plate": file_of(PLATE, version=1)}
     stored = {program: (data, printed(data)) for program, data in taken.items()}
-    stored |= {"show": (file_of(MIXED), listing(MIXED)), "logbook": (LOGBOOK, full)}
+    stored |= {"show": (file_of(MIXED), listing(MIXED)), "logbook_to_record": (LOGBOOK, full)}
     for program, (stdin, stdout) in stored.items():
         (CRATES / program / "stdin").write_bytes(stdin)
         (CRATES / program / "stdout").write_bytes(stdout)

@@ -5,7 +5,7 @@ usage: python3 tools/respell.py        at the top of the repository
 
 A definition, a lemma, a field or a constructor of antt is in snake case. A dash stays where it joins two names of definitions,
 as in length-text; a plain word is added with an underscore. Types, modules and names of src/ keep their spelling. Where two
-names would fall together the lemma gets _lem. What was renamed is written to docs/port_names.txt.
+names would fall together the lemma gets _lem. What was renamed is printed.
 """
 import os
 import re
@@ -195,9 +195,8 @@ def main():
     for p in ["README.md", "docs/ARCHITECTURE.md", "docs/DECISIONS.md", "docs/LANDINGS.md"]:
         t = open(p, encoding="utf-8").read()
         open(p, "w", encoding="utf-8").write(page(t, new))
-    with open("docs/port_names.txt", "w", encoding="utf-8") as f:
-        for n in sorted(new):
-            f.write(f"{n} {new[n]}\n")
+    for n in sorted(new):
+        print(n, new[n])
 
 
 main()

@@ -24,6 +24,10 @@ fn rattle() -> String {
     text_of("crates/nodhulika_c/src/lib.rt")
 }
 
+fn proved() -> String {
+    text_of("crates/nodhulika/src/lib.rt")
+}
+
 fn header() -> String {
     text_of("include/nodhulika.h")
 }
@@ -149,6 +153,33 @@ fn declared_in_header(text: &str) -> Declared {
         assert_eq!(declared.insert(name.to_owned(), all), None);
     }
     declared
+}
+
+/// What each function of the library asks and promises, line by line.
+fn promised(text: &str) -> BTreeMap<String, Vec<&str>> {
+    let functions = text.split("fn nodhulika_").skip(1);
+    functions
+        .map(|function| {
+            let (name, _) = function.split_once('(').expect("parameters begin");
+            let head = function.lines().take_while(|line| *line != "{");
+            let clause = |line: &&str| {
+                let line = line.trim_start();
+                line.starts_with("requires") || line.starts_with("ensures")
+            };
+            (name.to_owned(), head.filter(clause).collect())
+        })
+        .collect()
+}
+
+/// The exports call the proved functions; that they promise the same is their
+/// texts' affair, since no proof can rest on a static library.
+#[test]
+fn the_exports_promise_what_is_proved() {
+    let (exports, proved) = (rattle(), proved());
+    let promises = promised(&exports);
+    assert_eq!(promises.len(), 11);
+    assert!(promises.values().all(|clauses| !clauses.is_empty()));
+    assert_eq!(promises, promised(&proved));
 }
 
 #[test]
