@@ -2,7 +2,8 @@
 # Proves and builds what a workshop or another program uses, and puts it under target/:
 #   tools/build.sh programs   bin/logbook, bin/placard, bin/show
 #   tools/build.sh counted    bin/counted
-#   tools/build.sh library    staticlib/libnodhulika.a
+#   tools/build.sh library    staticlib/libnodhulika.a, by the compiler that is written in Rattle: it calls nothing
+#   tools/build.sh library-llvm    the same by LLVM: quicker in a placard's rows, but it calls memset
 set -eu
 cd "$(dirname "$0")/.."
 
@@ -10,6 +11,12 @@ program() {
     (cd "crates/$1" && rt run < /dev/null > /dev/null)
     mkdir -p target/bin
     cp "crates/$1/out/$1" "target/bin/$2"
+}
+
+archive() {
+    (cd crates/nodhulika_c && rt lib "$@")
+    mkdir -p target/staticlib
+    cp crates/nodhulika_c/out/libnodhulika_c.a target/staticlib/libnodhulika.a
 }
 
 case "${1-}" in
@@ -22,13 +29,13 @@ counted)
     program counted counted
     ;;
 library)
-    # by the compiler that is written in Rattle: what LLVM makes calls memset, which a handheld may lack
-    (cd crates/nodhulika_c && rt lib --backend rattle)
-    mkdir -p target/staticlib
-    cp crates/nodhulika_c/out/libnodhulika_c.a target/staticlib/libnodhulika.a
+    archive --backend rattle
+    ;;
+library-llvm)
+    archive
     ;;
 *)
-    echo "usage: tools/build.sh programs|counted|library" >&2
+    echo "usage: tools/build.sh programs|counted|library|library-llvm" >&2
     exit 2
     ;;
 esac
