@@ -1,5 +1,6 @@
 -- Paper 01, as the cards of paper 02 have changed it, as definitions: a module for each of its headings, in its order.
 pub mod Units
+pub mod Numbers
 pub mod Record
 pub mod Rows
 pub mod Placard

@@ -3,7 +3,10 @@
 // What the papers speak of, as types: weights and arms, the entries, a row, and what the calls answer.
 // What the papers say of them is in specs/, a file for each heading of paper 01.
 ghost use Rattle.std.specs.Prelude.{◌≡◌};
+ghost use Rattle.paper.specs.declared.Entry.TheVariants as entry;
 ghost use Rattle.paper.specs.Units.{is_arm};
+ghost use Rattle.paper.specs.Numbers.{number_of, code_of, Decodes};
+ghost use Rattle.paper.specs.File.{kind_of};
 
 // How many entries a record may hold.
 pub const CAPACITY: usize = 64;
@@ -126,6 +129,117 @@ pub enum Entry {
     Change(Change),
     Paired(Paired),
     Seat(Seat),
+}
+
+impl Entry {
+    // Its kind.
+    pub fn kind(self) -> Kind
+        ensures { code_of result ≡ kind_of self }
+    {
+        match self {
+            Entry::Weighing(_) => Kind::Weighing,
+            Entry::Sheet(_) => Kind::Sheet,
+            Entry::Change(_) => Kind::Change,
+            Entry::Paired(_) => Kind::Paired,
+            Entry::Seat(_) => Kind::Seat,
+        }
+    }
+}
+
+impl From<Weighing> for Entry {
+    ghost from_gives = { λ w e. e ≡ entry.Weighing w };
+
+    fn from(w: Weighing) -> Entry {
+        Entry::Weighing(w)
+    }
+}
+
+impl From<Sheet> for Entry {
+    ghost from_gives = { λ s e. e ≡ entry.Sheet s };
+
+    fn from(s: Sheet) -> Entry {
+        Entry::Sheet(s)
+    }
+}
+
+impl From<Change> for Entry {
+    ghost from_gives = { λ x e. e ≡ entry.Change x };
+
+    fn from(x: Change) -> Entry {
+        Entry::Change(x)
+    }
+}
+
+impl From<Paired> for Entry {
+    ghost from_gives = { λ x e. e ≡ entry.Paired x };
+
+    fn from(x: Paired) -> Entry {
+        Entry::Paired(x)
+    }
+}
+
+impl From<Seat> for Entry {
+    ghost from_gives = { λ f e. e ≡ entry.Seat f };
+
+    fn from(f: Seat) -> Entry {
+        Entry::Seat(f)
+    }
+}
+
+// The kinds of entry, by the numbers that they have in the file.
+#[derive(Clone, Copy, PartialEq, Eq, PartialOrd, Ord)]
+pub enum Kind {
+    Weighing = 1,
+    Sheet = 2,
+    Change = 3,
+    Paired = 4,
+    Seat = 5,
+}
+
+// A number that no kind has.
+#[derive(Clone, Copy, PartialEq, Eq)]
+pub struct UnknownKind(pub u8);
+
+impl TryFrom<u8> for Kind {
+    type Error = UnknownKind;
+
+    ghost try_from_gives = { Decodes };
+
+    fn try_from(code: u8) -> Result<Self, UnknownKind> {
+        match code {
+            1 => Ok(Kind::Weighing),
+            2 => Ok(Kind::Sheet),
+            3 => Ok(Kind::Change),
+            4 => Ok(Kind::Paired),
+            5 => Ok(Kind::Seat),
+            _ => Err(UnknownKind(code)),
+        }
+    }
+}
+
+// Why a call is refused, by the numbers of refusal.
+#[derive(Clone, Copy, PartialEq, Eq)]
+pub enum Refusal {
+    Reading = 1,
+    Distance = 2,
+    NonLifting = 3,
+    Range = 4,
+    Rows = 5,
+    Change = 6,
+    NoWeighing = 7,
+    NoSheet = 8,
+    Full = 9,
+    Empty = 10,
+    ShortBuffer = 11,
+    NoFile = 12,
+}
+
+impl From<Refusal> for u64 {
+    ghost from_gives = { λ r n. n ≡ number_of r };
+
+    fn from(r: Refusal) -> u64 {
+        r as u64
+    }
 }
 
 // A row of the placard: the smallest and the largest front load, or blank.

@@ -1,0 +1,39 @@
+-- The numbers that kinds of entry and refusals have, and the number that an answer stands for.
+use Rattle.std.specs.Prelude.{◌≡◌, ℕ, Result, Ok, Err, MatchResult}
+use Rattle.paper.specs.declared.Kind.{Kind}
+use Rattle.paper.specs.declared.Kind.TheVariants as kind
+use Rattle.paper.specs.declared.UnknownKind.{UnknownKind}
+use Rattle.paper.specs.declared.Refusal.{Refusal}
+use Rattle.paper.specs.declared.Refusal.TheVariants as refusal
+
+-- "The file": the byte that stands for a kind of entry
+abbrev pub code_of : Kind → ℕ
+code_of kind.Weighing = 1
+code_of kind.Sheet = 2
+code_of kind.Change = 3
+code_of kind.Paired = 4
+code_of kind.Seat = 5
+
+-- the kind of a byte, or that no kind has it
+abbrev pub Decodes : ℕ → Result Kind UnknownKind → Type 0
+Decodes n r = MatchResult r (λ k. code_of k ≡ n) (λ e. (e.0 ≡ n) × ((k : Kind) → code_of k ≡ n → ⊥))
+
+-- "Numbers of refusal": a refusal's
+abbrev pub number_of : Refusal → ℕ
+number_of refusal.Reading = 1
+number_of refusal.Distance = 2
+number_of refusal.NonLifting = 3
+number_of refusal.Range = 4
+number_of refusal.Rows = 5
+number_of refusal.Change = 6
+number_of refusal.NoWeighing = 7
+number_of refusal.NoSheet = 8
+number_of refusal.Full = 9
+number_of refusal.Empty = 10
+number_of refusal.ShortBuffer = 11
+number_of refusal.NoFile = 12
+
+-- the number of an answer: 0 where the call is accepted
+abbrev pub number_in : {A : Type 0} → Result A Refusal → ℕ
+number_in (Ok x) = 0
+number_in (Err r) = number_of r
