@@ -1,5 +1,6 @@
 -- What is in force, as the code carries it: a sheet, and the ends that its front arm lies between.
-use Rattle.std.specs.Prelude.{List}
+use Rattle.std.specs.Prelude.{List, Some, None}
+use Rattle.std.specs.Prelude.{Option as RustOption}
 use Rattle.std.proofs.Math.Option.{Option, none, some, map}
 use Rattle.paper.specs.declared.Sheet.{Sheet}
 use Rattle.paper.specs.declared.Seat.{Seat}
@@ -7,11 +8,13 @@ use Rattle.paper.specs.declared.Entry.{Entry}
 use Rattle.paper.specs.declared.Entry.TheVariants as entry
 use Rattle.paper.specs.Record.{sheet_of, seat_of, ends_of}
 use Rattle.seat.specs.declared.InForce.{InForce}
-use Rattle.seat.specs.declared.InForce.TheVariants.{Nothing, Found}
 
-abbrev pub found : InForce → Option (Sheet × Seat)
-found Nothing = none
-found (Found s f) = some (s, f)
+abbrev pub as_pair : InForce → Sheet × Seat
+as_pair x = (x.sheet, x.seat)
+
+abbrev pub found : RustOption InForce → Option (Sheet × Seat)
+found None = none
+found (Some x) = some (as_pair x)
 
 -- of a list: its sheet in force, with the ends that the paper gives it
 abbrev pub with_ends : Option Seat → Sheet → Sheet × Seat

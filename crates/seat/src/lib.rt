@@ -1,13 +1,11 @@
 #![tactic(auto)]
 
-// A seat entry's number of refusal, by the entry alone, and what is in force: a sheet, and the ends that its front arm lies between.
-ghost use Rattle.std.specs.Prelude.{◌≡◌};
-ghost use Rattle.std.proofs.Math.Option.{none, map};
-ghost use Rattle.paper.specs.Record.{ends_of};
-ghost use Rattle.paper.specs.Refusals.{bad_ends};
-ghost use Rattle.seat.specs.InForce.{found, moved as moved_ends, after};
+// A seat entry's condition, by the entry alone, and what is in force: a sheet, and the ends that its front arm lies between.
+ghost use Rattle.std.specs.Prelude.{◌≡◌, false, [], ◌∷◌, IfOk};
+ghost use Rattle.paper.specs.Numbers.{number_in};
+ghost use Rattle.paper.specs.Refusals.{first_number, ◌when◌, sheet_faults, bad_ends};
 
-use paper::{Arm, Entry, Seat, Sheet};
+use paper::{Arm, Refusal, Seat, Sheet};
 
 // Number 2's condition.
 pub fn bad_ends(f: Seat) -> bool
@@ -22,42 +20,44 @@ pub fn bad_ends(f: Seat) -> bool
     f.higher < f.lower
 }
 
-// The sheet in force, where there is one, and the ends that its front arm lies between.
+// A sheet in force, with the ends that its front arm lies between. Both were accepted.
 #[derive(Clone, Copy)]
-pub enum InForce {
-    Nothing,
-    Found(Sheet, Seat),
+pub struct InForce {
+    pub sheet: Sheet,
+    pub seat: Seat,
+    pub ghost accepted: { first_number (sheet_faults sheet) ≡ 0 },
+    pub ghost in_order: { bad_ends seat ≡ false },
 }
 
-// The ends of a sheet that no seat entry has moved: its front arm twice.
-pub fn fixed(s: Sheet) -> Seat
-    ensures { result ≡ ends_of s none }
-{
-    Seat {
-        lower: s.front.arm,
-        higher: s.front.arm,
+impl InForce {
+    ghost use Rattle.std.proofs.Math.Option.{none};
+    ghost use Rattle.paper.specs.Record.{ends_of};
+    ghost use Rattle.seat.specs.InForce.{as_pair};
+
+    // A sheet comes with its own arm: both ends are there.
+    pub fn new(sheet: Sheet) -> Result<InForce, Refusal>
+        ensures number { number_in result ≡ first_number (sheet_faults sheet) }
+        ensures accepted { IfOk result (λ r. as_pair r ≡ (sheet, ends_of sheet none)) }
+    {
+        sheet::check(sheet)?;
+        let seat = Seat {
+            lower: sheet.front.arm,
+            higher: sheet.front.arm,
+        };
+        Ok(InForce { sheet, seat })
     }
-}
 
-// The sheet in force with the ends of a seat entry.
-pub fn moved(last: InForce, f: Seat) -> InForce
-    ensures { found result ≡ map (moved_ends f) (found last) }
-{
-    let InForce::Found(s, _) = last else {
-        return InForce::Nothing;
-    };
-    InForce::Found(s, f)
-}
-
-// What is in force behind one entry more.
-pub fn later(last: InForce, e: Entry) -> InForce
-    ensures { found result ≡ after (found last) e }
-{
-    match e {
-        Entry::Weighing(_) => last,
-        Entry::Sheet(s) => InForce::Found(s, fixed(s)),
-        Entry::Change(_) => last,
-        Entry::Paired(_) => last,
-        Entry::Seat(f) => moved(last, f),
+    // A seat entry moves the ends.
+    pub fn moved(self, seat: Seat) -> Result<InForce, Refusal>
+        ensures number { number_in result ≡ first_number (2 when bad_ends seat ∷ []) }
+        ensures accepted { IfOk result (λ r. as_pair r ≡ (self.sheet, seat)) }
+    {
+        if bad_ends(seat) {
+            return Err(Refusal::Distance);
+        }
+        Ok(InForce {
+            sheet: self.sheet,
+            seat,
+        })
     }
 }

@@ -1,10 +1,11 @@
 #![tactic(auto)]
 
-// A data sheet's number of refusal, by the sheet alone.
+// Whether a data sheet is accepted, by the sheet alone.
 ghost use Rattle.std.specs.Prelude.{◌≡◌, false, ◌+◌, ◌/◌, ◌≤◌};
+ghost use Rattle.paper.specs.Numbers.{number_in};
 ghost use Rattle.paper.specs.Refusals.{first_number, bad_arms, bad_ranges, is_step_to, bad_rows, sheet_faults};
 
-use paper::{Arm, MOST_ROWS, Sheet, Station, Weight};
+use paper::{Arm, MOST_ROWS, Refusal, Sheet, Station, Weight};
 
 // Number 2's condition.
 fn bad_arms(s: Sheet) -> bool
@@ -91,18 +92,18 @@ fn bad_rows(s: Sheet) -> bool
     MOST_ROWS < laws::times(loads(s.rear), loads(s.water))
 }
 
-// The number of refusal behind 9.
-pub fn number(s: Sheet) -> u64
-    ensures { result ≡ first_number (sheet_faults s) }
+// Whether a sheet is accepted behind 9, or why it is refused.
+pub fn check(s: Sheet) -> Result<(), Refusal>
+    ensures { number_in result ≡ first_number (sheet_faults s) }
 {
     if bad_arms(s) {
-        return 2;
+        return Err(Refusal::Distance);
     }
     if bad_ranges(s) {
-        return 4;
+        return Err(Refusal::Range);
     }
     if bad_rows(s) {
-        return 5;
+        return Err(Refusal::Rows);
     }
-    0
+    Ok(())
 }

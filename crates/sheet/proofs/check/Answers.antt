@@ -1,9 +1,9 @@
--- `sheet::number` meets its contract: the calls are the definition's conditions, in its order. Assumes nothing.
+-- `sheet::check` meets its contract: the calls are the definition's conditions, in its order. Assumes nothing.
 -- behind the first and the second test their conditions fail
 use mathlib.Core.Path.{◌≡◌, sym, ◌∙◌}
 use mathlib.Core.Bool.{false}
 use Rattle.paper.specs.Refusals.{first_number, bad_arms, bad_ranges, sheet_faults}
-use Rattle.sheet.proofs.number.Goals as goal
+use Rattle.sheet.proofs.check.Goals as goal
 
 pub returns-then-bad_arms : goal.returns-then-bad_arms
 unfolding first_number sheet_faults
