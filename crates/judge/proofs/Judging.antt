@@ -8,18 +8,18 @@ use mathlib.Core.Option.{none, some}
 use Prim.Native.Nat.{ℕ, ◌+◌, ◌≤◌, ◌<◌}
 use native.Mathlib.Decide.{dec_lt}
 use native.Mathlib.Omega.{arith}
-use borrow.Author.Tests.{le-leb, lt-leb, ne_eqb}
+use borrow.Author.Tests.{le-leb, lt-leb}
 use Rattle.paper.specs.declared.Sheet.{Sheet}
 use Rattle.paper.specs.declared.Seat.{Seat}
 use Rattle.paper.specs.declared.Change.{Change}
 use Rattle.paper.specs.declared.Refusal.{Refusal}
-use Rattle.paper.specs.declared.Refusal.TheVariants as refusal
 use Rattle.paper.specs.declared.Entry.{Entry}
 use Rattle.paper.specs.declared.Entry.TheVariants as entry
 use Rattle.paper.specs.Record as paper
 use Rattle.paper.specs.Record.{is_none}
 use Rattle.paper.specs.Refusals.{change_faults, seat_faults, bad_ends, first_number, ◌when◌}
 use Rattle.paper.specs.Numbers.{number_of}
+use Rattle.paper.proofs.Numbers.{not_0}
 use Rattle.balance.specs.declared.Balance.{Balance}
 use Rattle.balance.specs.Balance.{plain, Bounded}
 use Rattle.seat.specs.declared.InForce.{InForce}
@@ -54,24 +54,10 @@ room_of o e z =
 
 -- ---- an entry is refused, or added
 
-positive : (r : Refusal) → 0 < number_of r
-positive refusal.Reading = omega arith
-positive refusal.Distance = omega arith
-positive refusal.NonLifting = omega arith
-positive refusal.Range = omega arith
-positive refusal.Rows = omega arith
-positive refusal.Change = omega arith
-positive refusal.NoWeighing = omega arith
-positive refusal.NoSheet = omega arith
-positive refusal.Full = omega arith
-positive refusal.Empty = omega arith
-positive refusal.ShortBuffer = omega arith
-positive refusal.NoFile = omega arith
-
 module _ (o : Stands) (e : Entry) where
   pub refused_at : (r : Refusal) → number_of r ≡ number_at o e → ◌≡◌ {A = ℕ × Stands} (number_of r, o) (judged o e)
   unfolding judged
-  refused_at r n = simp (sym n, ne_eqb (number_of r) 0 (λ (z : number_of r ≡ 0). let k = positive r in omega arith))
+  refused_at r n = simp (sym n, not_0 r)
 
   module _ (room : o.entries < 64) where
     pub refused_by : (r : Refusal) → number_of r ≡ first_number (faults_of o e) → ◌≡◌ {A = ℕ × Stands} (number_of r, o) (judged o e)
