@@ -1,16 +1,18 @@
 -- What a call's order says of its number: 0 means that no condition holds, each taken off the list in turn. Assumes nothing.
 use mathlib.Core.Path.{◌≡◌, refl}
 use mathlib.Core.Bool.{Bool, true, false}
-use mathlib.Core.List.{List, ◌∷◌}
+use mathlib.Core.List.{List, [], ◌∷◌}
 use Prim.Native.Nat.{ℕ, ◌<◌}
 use lib.Dec.{eqb}
 use borrow.Author.Tests.{ne_eqb}
 use Rattle.std.specs.Prelude.{Result, Err}
 use Rattle.paper.specs.declared.Refusal.{Refusal}
 use Rattle.paper.specs.declared.Refusal.TheVariants as refusal
-use Rattle.paper.specs.Numbers.{number_of, refusal_of, answer_of}
+use Rattle.paper.specs.Numbers.{number_of, number_in, refusal_of, answer_of}
 use native.Mathlib.Omega.{arith}
-use Rattle.paper.specs.Refusals.{first_number}
+use Rattle.paper.specs.declared.Entry.{Entry}
+use Rattle.paper.specs.Refusals.{first_number, weighing_number, weighing_faults, sheet_number, sheet_faults, change_number, change_faults, seat_number, seat_faults, undo_number, reading_number}
+use Rattle.paper.specs.Journal.{Call, weigh, pair, install, change, seat, undo, read, call_number}
 
 -- a number above 0 whose condition holds comes first
 clear_of : (n : ℕ) (b : Bool) (xs : List (ℕ × Bool)) → 0 < n → first_number ((n, b) ∷ xs) ≡ 0 → (b ≡ false) × (first_number xs ≡ 0)
@@ -59,3 +61,28 @@ not_0 r = ne_eqb (number_of r) 0 (λ (z : number_of r ≡ 0). let k = positive r
 
 pub answer_told : {A : Type 0} (r : Refusal) (x : A) → ◌≡◌ {A = Result A Refusal} (answer_of (number_of r) x) (Err r)
 answer_told r x = simp (not_0 r, number_back r)
+
+-- ---- the answer of a call's number has that number
+
+abbrev pub Told : ℕ → Type 0
+Told n = number_in (answer_of n (tt {0})) ≡ n
+
+one_of : (n : ℕ) (b : Bool) (xs : List (ℕ × Bool)) → Told n → Told (first_number xs) → Told (first_number ((n, b) ∷ xs))
+unfolding first_number
+one_of n true xs h k = h
+one_of n false xs h k = k
+
+none_of : Told (first_number [])
+unfolding first_number
+none_of = refl
+
+pub call_told : (es : List Entry) (x : Call) → Told (call_number es x)
+unfolding refusal_of call_number weighing_number weighing_faults sheet_number sheet_faults change_number change_faults seat_number seat_faults undo_number reading_number
+call_told es (weigh w) = one_of 9 _ _ refl (one_of 1 _ _ refl (one_of 2 _ _ refl (one_of 3 _ [] refl none_of)))
+call_told es (pair x) = one_of 9 _ _ refl (one_of 1 _ _ refl (one_of 2 _ _ refl (one_of 3 _ [] refl none_of)))
+call_told es (install s) = one_of 9 _ _ refl (one_of 2 _ _ refl (one_of 4 _ _ refl (one_of 5 _ [] refl none_of)))
+call_told es (change x) =
+    one_of 9 _ _ refl (one_of 7 _ _ refl (one_of 2 _ _ refl (one_of 6 _ _ refl (one_of 3 _ [] refl none_of))))
+call_told es (seat f) = one_of 9 _ _ refl (one_of 8 _ _ refl (one_of 2 _ [] refl none_of))
+call_told es undo = one_of 10 _ [] refl none_of
+call_told es (read xs) = one_of 12 _ [] refl none_of
