@@ -63,7 +63,7 @@ impl Terms {
         ensures { result.front.arms.force ≡ force }
     {
         let arms = Arms::new(force);
-        let share = arms.grams_at(force.sheet.water.step, arms.water);
+        let share = arms.grams_at(arms.force.sheet.water.step, arms.water);
         Terms {
             front: Front::new(arms),
             share,
@@ -98,7 +98,9 @@ impl Terms {
     {
         let rear = j as u64 * self.front.arms.force.sheet.rear.step;
         let mut x = self.front.arms.beside(b, rear);
-        let span = self.front.with_none(&x, b.nonlifting + Weight::HALVES * rear);
+        let span = self
+            .front
+            .with_none(&x, b.nonlifting + Weight::HALVES * rear);
         let field = line::field(rear);
         let first = j * fields.len();
         let mut none = 0;

@@ -26,7 +26,18 @@ overflow_add-water c =
     omega (arith, water_most x _ c.requires c.loop-field.field-index (omega (arith, inv.2, c.loop-field-test.true)), inv.1, (accepted-sheet x.sheet x.accepted).steps.water.1)
 
 pub loop-field-preserved : goal.loop-field-preserved
-loop-field-preserved c = ?
+loop-field-preserved c =
+    let s = c.args.force.now.sheet in
+    let k = c.loop-field.field-index in
+    let inv = c.loop-field.invariant in
+    let length_is = length-set c.loop-field.fields k c.field.result in (
+      omega (arith, length_is, inv.2, c.loop-field-test.true),
+      omega (arith, inv.1, add-mul k 1 s.water.step, one-mul s.water.step),
+      length_is ∙ inv.2,
+      fields_more s k c.field.result c.loop-field.fields (omega (arith, inv.2, c.loop-field-test.true)) inv.3 (rw (← inv.1) c.field.ensures),
+    )
 
 pub returns : goal.returns
-returns c = ?
+returns c =
+    let inv = c.loop-field.invariant in
+    record { count = inv.2 ∙ c.requires; each = λ k h. inv.3 k (omega (arith, h, c.requires, c.loop-field-test.false)) }

@@ -39,6 +39,9 @@ room_in x fields j f h =
 pub beside-x-requires : goal.beside-x-requires
 beside-x-requires c = (c.requires.0, rear_most c.args.self.now.front.arms.force c.args.j c.requires.1)
 
+pub overflow_mul-rear : goal.overflow_mul-rear
+overflow_mul-rear c = omega (arith, rear_most c.args.self.now.front.arms.force c.args.j c.requires.1)
+
 pub overflow_mul-rear-2 : goal.overflow_mul-rear-2
 overflow_mul-rear-2 c = omega (arith, rear_most c.args.self.now.front.arms.force c.args.j c.requires.1)
 
@@ -80,7 +83,39 @@ put_row-none-requires c =
     )
 
 pub loop-k-preserved : goal.loop-k-preserved
-loop-k-preserved c = ?
+loop-k-preserved c =
+    let a = c.args in
+    let force = a.self.now.front.arms.force in
+    let s = force.sheet in
+    let f = force.seat in
+    let n = length a.fields.now in
+    let room = room_in force a.fields.now a.j c.requires.2 c.requires.1 in
+    let k = c.loop-k.k in
+    let water = k * s.water.step in
+    let rear = a.j * s.rear.step in
+    let inv = c.loop-k.invariant in
+    let count = c.requires.2.count in
+    let taken : k < n = c.loop-k-test.true in
+    let field = c.requires.2.each k (omega (arith, count, taken)) in
+    let g₀ = plain a.b in
+    let h₀ = c.beside-x.ensures.1 in
+    let none₀ = c.with_none-span.ensures.1 g₀ rear h₀ (part_with a.b rear) in
+    let whole = (c.put_row-none.ensures.1 g₀ rear water c.field-field.ensures field (inv.4 g₀ h₀).0 none₀).1 in
+    let next : (k + 1) * s.water.step ≡ water + s.water.step = omega (arith, add-mul k 1 s.water.step, one-mul s.water.step) in (
+      omega arith,
+      omega (arith, c.put_row-none.ensures.0),
+      ap length whole ∙ length-written c.loop-k.out _ _ (rw length-line (omega (arith, room.0, c.requires.3, inv.2))) ∙ inv.2,
+      room-more k c.loop-k.x a.self.now.share c.carried-next.result c.carried-next.ensures.0 inv.3 a.self.now.share_in,
+      λ g h. (
+        rw next (c.carried-next.ensures.1 s g rear water (inv.4 g h).0 a.self.now.share_is),
+        λ none.
+            let put = c.put_row-none.ensures.1 g rear water c.field-field.ensures field (inv.4 g h).0 none in
+            group_more s f g (a.j * n) k c.loop-k.none c.put_row-none.result a.out.now c.loop-k.out _ ((inv.4 g h).1 none)
+            (omega (arith, room.0, c.requires.3))
+            (put.0 ∙ ap blanks (row_in s n count a.j k taken f g))
+            (put.1 ∙ ap (λ y. written c.loop-k.out (36 * (a.j * n + k)) y) (line_in_lem s n count a.j k taken f g)),
+      ),
+    )
 
 pub returns : goal.returns
 returns c =
