@@ -13,11 +13,15 @@ use Rattle.paper.specs.Rows.{total_beside, moment_beside}
 use Rattle.planes.proofs.Lines.{half_is, turned_is, beside_more-total, beside_more_moment}
 use Rattle.aboard.specs.declared.Arms.{Arms}
 use Rattle.aboard.specs.declared.Laden.{Laden}
-use Rattle.aboard.specs.Aboard.{Below, value_of, sum_of, times_of, safe_of, safe_arm, ArmsOf, laid_out, plus, scaled, Stands, Beside, LoadOf, Room, Share}
+use Rattle.aboard.specs.Sides.{Below, Sided, value_of, sum_of, times_of, safe_of, safe_arm}
+use Rattle.aboard.specs.Aboard.{laid_out, plus, scaled, Stands, Beside, LoadOf, Room, Share}
 
 -- a number's sides as `split` gives them are in an arm's range
 pub in_range_lem : {z : ℤ} {x : Sides} → SidesOf z x.up x.down → Below 2000000 x
 in_range_lem h = record { up = h.high; down = h.low }
+
+pub sided : {z : ℤ} {x : Sides} → SidesOf z x.up x.down → Sided 2000000 z x
+sided h = record { value = sym h.value; range = in_range_lem h }
 
 -- a number by its sides
 pub is_value : (x : Sides) → Is (value_of x) x.up x.down
@@ -55,22 +59,22 @@ value_safe fwd aft e f =
 value-times : (n : ℕ) (x : Sides) {z : ℤ} → value_of x ≡ z → value_of (times_of n x) ≡ z *ℤ pos n
 value-times n x e = same (is_value (times_of n x)) (is_mul (is_by x e) (is_nat n)) (omega arith)
 
-pub stands_laid : (s : Sheet) (weight : ℕ) (moment : Sides) (a : Arms) → ArmsOf s a → Stands s (pos weight) (value_of moment) (laid_out weight moment a)
-stands_laid s weight moment a o =
+pub stands_laid : (weight : ℕ) (moment : Sides) (a : Arms) → Stands a.force.sheet (pos weight) (value_of moment) (laid_out weight moment a)
+stands_laid weight moment a =
     record {
       weight = refl;
       moment = refl;
-      forward = value-times weight a.fwd o.fwd;
-      safe = value-times weight a.safe o.safe;
+      forward = value-times weight a.fwd a.fwd_is.value;
+      safe = value-times weight a.safe a.safe_is.value;
     }
 
 halves : (n : ℕ) → pos (2 * n) ≡ half_grams (pos n)
 halves n = same (is_nat (2 * n)) (half_is n) (omega arith)
 
-pub load_of : (s : Sheet) (n : ℕ) (arm : Sides) (a : Arms) → ArmsOf s a → LoadOf s n (value_of arm) (laid_out (2 * n) (times_of (2 * n) arm) a)
-load_of s n arm a o =
+pub load_of : (n : ℕ) (arm : Sides) (a : Arms) → LoadOf a.force.sheet n (value_of arm) (laid_out (2 * n) (times_of (2 * n) arm) a)
+load_of n arm a =
     let m : value_of (times_of (2 * n) arm) ≡ half_grams (pos n) *ℤ value_of arm = same (is_value (times_of (2 * n) arm)) (turned_is n (is_value arm)) (omega arith) in
-    rw (halves n, m) at (stands_laid s (2 * n) (times_of (2 * n) arm) a o)
+    rw (halves n, m) at (stands_laid (2 * n) (times_of (2 * n) arm) a)
 
 -- k loads alike are one of k times the grams
 pub load-scaled : (s : Sheet) (k n : ℕ) (arm : ℤ) (x : Laden) → LoadOf s n arm x → LoadOf s (k * n) arm (scaled k x)

@@ -1,50 +1,14 @@
 -- What the code carries from row to row, and which weight and moment of the paper's it stands for; and the bounds that keep its
 -- sums in their words.
-use Rattle.std.specs.Prelude.{◌≡◌, ℕ, ◌+◌, ◌*◌, ◌≤◌, ℤ, pos, ◌+ℤ◌, ◌-ℤ◌, ◌*ℤ◌}
+use Rattle.std.specs.Prelude.{◌≡◌, ℕ, ◌+◌, ◌*◌, ◌≤◌, ℤ, pos, ◌*ℤ◌}
 use Rattle.laws.specs.declared.Sides.{Sides}
 use Rattle.paper.specs.declared.Sheet.{Sheet}
 use Rattle.paper.specs.Units.{half_grams}
 use Rattle.paper.specs.Record.{Balance}
 use Rattle.paper.specs.Rows.{total_beside, moment_beside}
+use Rattle.aboard.specs.Sides.{Below, value_of, sum_of, times_of, safe_arm, room}
 use Rattle.aboard.specs.declared.Arms.{Arms}
 use Rattle.aboard.specs.declared.Laden.{Laden}
-
--- ---- numbers by their two sides
-
-abbrev pub value_of : Sides → ℤ
-value_of x = pos x.up -ℤ pos x.down
-
-abbrev pub sum_of : Sides → Sides → Sides
-sum_of x y = record { up = x.up + y.up; down = x.down + y.down }
-
-abbrev pub times_of : ℕ → Sides → Sides
-times_of n x = record { up = n * x.up; down = n * x.down }
-
--- 20 times the safe aft limit: 19 AFT + FWD
-abbrev pub safe_of : Sides → Sides → Sides
-safe_of fwd aft = record { up = 19 * aft.up + fwd.up; down = 19 * aft.down + fwd.down }
-
-abbrev pub safe_arm : Sheet → ℤ
-safe_arm s = pos 19 *ℤ s.aft +ℤ s.fwd
-
-pub record Below (n : ℕ) (x : Sides) : Type 0 where
-  pub up : x.up ≤ n
-  pub down : x.down ≤ n
-
--- ---- the arms of a sheet
-
-pub record ArmsIn (a : Arms) : Type 0 where
-  pub fwd : Below 2000000 a.fwd
-  pub safe : Below 40000000 a.safe
-  pub rear : Below 2000000 a.rear
-  pub water : Below 2000000 a.water
-
-pub record ArmsOf (s : Sheet) (a : Arms) : Type 0 where
-  pub fwd : value_of a.fwd ≡ s.fwd
-  pub safe : value_of a.safe ≡ safe_arm s
-  pub rear : value_of a.rear ≡ s.rear.arm
-  pub water : value_of a.water ≡ s.water.arm
-  pub ranges : ArmsIn a
 
 -- ---- what is carried
 
@@ -90,10 +54,7 @@ LoadOf s grams arm x = Stands s (half_grams (pos grams)) (half_grams (pos grams)
 
 -- ---- bounds
 
--- a moment with k steps of water aboard
-abbrev pub room : ℕ → ℕ
-room k = 66000000000000000 + k * 160000000000000
-
+-- with k steps of water aboard
 pub record Room (k : ℕ) (x : Laden) : Type 0 where
   pub weight : x.weight ≤ 8000000 + k * 4000000
   pub moment : Below (room k) x.moment

@@ -1,2 +1,3 @@
 -- What is carried from row to row, and what it stands for.
+pub mod Sides
 pub mod Aboard

@@ -3,25 +3,29 @@
 // What the front load of a row comes on top of: the glider with a rear load and water aboard. It is carried from row to row by
 // additions alone.
 ghost use Rattle.std.specs.Prelude.{◌≡◌, ℕ, ◌+◌, ◌*◌, ◌≤◌};
-ghost use Rattle.paper.specs.Record.{Balance as Plain};
-ghost use Rattle.paper.specs.Refusals.{first_number, sheet_faults};
-ghost use Rattle.balance.specs.Balance.{plain, Bounded};
-ghost use Rattle.aboard.specs.Aboard.{Below, times_of, safe_of, ArmsOf, ArmsIn, value_of, sum_of, laid_out, plus, Beside, LoadOf, room, Room, Share};
+ghost use Rattle.aboard.specs.Sides.{Below, Sided, times_of, sum_of, safe_of, safe_arm, value_of, room};
 
 use balance::Balance;
 use laws::Sides;
-use paper::{Sheet, Weight};
+use paper::Weight;
+use seat::InForce;
 
-// FWD, 20 times the safe aft limit, and the arms of rear seat and water, each by its two sides.
+// The arms of the sheet in force, each by its two sides: FWD, 20 times the safe aft limit, the rear seat, the water.
 #[derive(Clone, Copy)]
 pub struct Arms {
+    pub force: InForce,
     pub fwd: Sides,
     pub safe: Sides,
     pub rear: Sides,
     pub water: Sides,
+    pub ghost fwd_is: { Sided 2000000 force.sheet.fwd fwd },
+    pub ghost safe_is: { Sided 40000000 (safe_arm force.sheet) safe },
+    pub ghost rear_is: { Sided 2000000 force.sheet.rear.arm rear },
+    pub ghost water_is: { Sided 2000000 force.sheet.water.arm water },
 }
 
-// A weight in half grams, its moment, and the moments that FWD and 20 times the safe aft limit have at that weight.
+// A weight in half grams, its moment, and the moments that FWD and 20 times the safe aft limit have at that weight. How far it
+// may grow is counted by the rows (`Room`), so that is no field of it.
 #[derive(Clone, Copy)]
 pub struct Laden {
     pub weight: u64,
@@ -63,69 +67,77 @@ fn safe_arm(fwd: Sides, aft: Sides) -> Sides
     }
 }
 
-// The arms of an accepted sheet.
-pub fn arms_of(s: Sheet) -> Arms
-    requires { first_number (sheet_faults s) ≡ 0 }
-    ensures { ArmsOf s result }
-{
-    let fwd = laws::split(s.fwd);
-    let aft = laws::split(s.aft);
-    Arms {
-        fwd: fwd,
-        safe: safe_arm(fwd, aft),
-        rear: laws::split(s.rear.arm),
-        water: laws::split(s.water.arm),
+impl Arms {
+    ghost use Rattle.balance.specs.Balance.{plain, Bounded};
+    ghost use Rattle.aboard.specs.Aboard.{laid_out, Beside, LoadOf, Room, Share};
+
+    pub fn new(force: InForce) -> Arms
+        ensures { result.force ≡ force }
+    {
+        let s = force.sheet;
+        let fwd = laws::split(s.fwd);
+        let aft = laws::split(s.aft);
+        Arms {
+            force,
+            fwd,
+            safe: safe_arm(fwd, aft),
+            rear: laws::split(s.rear.arm),
+            water: laws::split(s.water.arm),
+        }
     }
-}
 
-// A weight with its moment.
-fn laid(weight: u64, moment: Sides, a: Arms) -> Laden
-    requires { (weight ≤ 5000000) × ArmsIn a }
-    ensures { (result ≡ laid_out weight moment a) × ((n : ℕ) → weight ≤ n → Below (n * 40000000) result.forward × Below (n * 40000000) result.safe) }
-{
-    Laden {
-        weight: weight,
-        moment: moment,
-        forward: turned(weight, a.fwd),
-        safe: turned(weight, a.safe),
+    // A weight with its moment.
+    fn laid(&self, weight: u64, moment: Sides) -> Laden
+        requires { weight ≤ 5000000 }
+        ensures { (result ≡ laid_out weight moment self.now) × ((n : ℕ) → weight ≤ n → Below (n * 40000000) result.forward × Below (n * 40000000) result.safe) }
+    {
+        Laden {
+            weight,
+            moment,
+            forward: turned(weight, self.fwd),
+            safe: turned(weight, self.safe),
+        }
     }
-}
 
-// So many grams at an arm: a load, or a step of one.
-pub fn grams_at(grams: u64, arm: Sides, a: Arms) -> Laden
-    requires { (grams ≤ 2000000) × Below 2000000 arm × ArmsIn a }
-    ensures { Share result × ((s : Sheet) → ArmsOf s a → LoadOf s grams (value_of arm) result) }
-{
-    let weight = Weight::HALVES * grams;
-    laid(weight, turned(weight, arm), a)
-}
-
-// What is carried, with one load more. So the water step's share takes it from a row to the next: its moment is then M with the
-// row's rear load and all its water at their arms.
-pub fn carried(x: Laden, load: Laden) -> Laden
-    requires { Room 256 x × Share load }
-    ensures { (result ≡ plus x load) × ((s : Sheet) (b : Plain) (r w : ℕ) → Beside s b r w x → LoadOf s s.water.step s.water.arm load → Beside s b r (w + s.water.step) result) }
-{
-    Laden {
-        weight: x.weight + load.weight,
-        moment: both(x.moment, load.moment),
-        forward: both(x.forward, load.forward),
-        safe: both(x.safe, load.safe),
+    // So many grams at an arm: a load, or a step of one.
+    pub fn grams_at(&self, grams: u64, arm: Sides) -> Laden
+        requires { (grams ≤ 2000000) × Below 2000000 arm }
+        ensures { Share result × LoadOf self.now.force.sheet grams (value_of arm) result }
+    {
+        let weight = Weight::HALVES * grams;
+        self.laid(weight, turned(weight, arm))
     }
-}
 
-// The glider with a rear load and no water: what the first row beside it begins with.
-pub fn beside(a: Arms, b: Balance, rear: u64) -> Laden
-    requires { ArmsIn a × Bounded 1024 b × (rear ≤ 500000) }
-    ensures { Room 0 result × ((s : Sheet) → ArmsOf s a → Beside s (plain b) rear 0 result) }
-{
-    let empty = laid(
-        b.total,
-        Sides {
+    // The glider with a rear load and no water: what the first row beside it begins with.
+    pub fn beside(&self, b: Balance, rear: u64) -> Laden
+        requires { Bounded 1024 b × (rear ≤ 500000) }
+        ensures { Room 0 result × Beside self.now.force.sheet (plain b) rear 0 result }
+    {
+        let moment = Sides {
             up: b.aft,
             down: b.fore,
-        },
-        a,
-    );
-    carried(empty, grams_at(rear, a.rear, a))
+        };
+        let empty = self.laid(b.total, moment);
+        empty.carried(self.grams_at(rear, self.rear))
+    }
+}
+
+impl Laden {
+    ghost use Rattle.paper.specs.declared.Sheet.{Sheet};
+    ghost use Rattle.paper.specs.Record.{Balance as Plain};
+    ghost use Rattle.aboard.specs.Aboard.{plus, Beside, LoadOf, Room, Share};
+
+    // What is carried, with one load more. So the water step's share takes it from a row to the next: its moment is then M with the
+    // row's rear load and all its water at their arms.
+    pub fn carried(self, load: Laden) -> Laden
+        requires { Room 256 self × Share load }
+        ensures { (result ≡ plus self load) × ((s : Sheet) (b : Plain) (r w : ℕ) → Beside s b r w self → LoadOf s s.water.step s.water.arm load → Beside s b r (w + s.water.step) result) }
+    {
+        Laden {
+            weight: self.weight + load.weight,
+            moment: both(self.moment, load.moment),
+            forward: both(self.forward, load.forward),
+            safe: both(self.safe, load.safe),
+        }
+    }
 }

@@ -19,7 +19,7 @@ use Rattle.paper.specs.Rows.{row, row_count}
 use Rattle.paper.specs.Placard.{kilograms, line}
 use Rattle.line.specs.Word.{word}
 use Rattle.group.specs.Numbered.{rears, waters, rear_at, water_at, row_at, line_at, blanks, lines_to, blanks_to}
-use Rattle.group.specs.Shared.{FieldsOf}
+use Rattle.group.specs.Shared.{FieldsTo}
 use Rattle.group.proofs.Rows.{length-lines, lines_more, blank_more}
 
 -- ---- one row more
@@ -83,9 +83,14 @@ group_more s f b first k blank one from out last g h o l =
       lines = λ lent n e'. one_put s f b lent out last i (omega arith) (g.lines lent n e') l ∙ ap (λ (m : ℕ). written lent 0 (lines_to s f b m)) e;
     }
 
+-- and where there are no more
+pub group_done : (s : Sheet) (f : Seat) (b : Balance) (first k blank i n : ℕ) (from out : List ℕ) → first ≡ i → k ≡ n → GroupTo s f b first k blank from out
+    → (blank + blanks_to s f b i ≡ blanks_to s f b (i + n)) × ((lent : List ℕ) → length lent ≡ length from → from ≡ written lent 0 (lines_to s f b i) → out ≡ written lent 0 (lines_to s f b (i + n)))
+group_done s f b first k blank i n from out d e g = rw (← d, ← e) (g.blanks, g.lines)
+
 -- ---- the fields of the waters: one more of them
 
-pub fields_more : (s : Sheet) (k x : ℕ) (fields : List ℕ) → k < length fields → FieldsOf s k fields → x ≡ word (kilograms (k * s.water.step)) → FieldsOf s (k + 1) (set fields k x)
+pub fields_more : (s : Sheet) (k x : ℕ) (fields : List ℕ) → k < length fields → FieldsTo s k fields → x ≡ word (kilograms (k * s.water.step)) → FieldsTo s (k + 1) (set fields k x)
 fields_more s k x fields h f e i l =
     ⊎_elim (λ (z : i ≡ k). rw (z, get_or-set_same fields k x 0 h) e)
     (λ (z : i < k). rw (get_or-set_other fields k i x 0 (omega arith)) (f i z))

@@ -1,18 +1,15 @@
--- What all rows of a placard have in common.
-use Rattle.std.specs.Prelude.{◌≡◌, List, ℕ, ◌*◌, ◌<◌, get_or}
+-- The fields of the waters, which all rear loads have in common.
+use Rattle.std.specs.Prelude.{◌≡◌, List, ℕ, ◌*◌, ◌<◌, get_or, length}
 use Rattle.paper.specs.Placard.{kilograms}
 use Rattle.paper.specs.declared.Sheet.{Sheet}
-use Rattle.aboard.specs.Aboard.{ArmsOf, LoadOf, Share}
-use Rattle.limits.specs.Seats.{FrontOf}
 use Rattle.line.specs.Word.{word}
-use Rattle.group.specs.declared.Terms.{Terms}
-
-pub record TermsOf (s : Sheet) (t : Terms) : Type 0 where
-  pub arms : ArmsOf s t.arms
-  pub front : FrontOf s t.front
-  pub water : LoadOf s s.water.step s.water.arm t.share
-  pub share : Share t.share
+use Rattle.group.specs.Numbered.{waters}
 
 -- the fields of the first n waters
-abbrev pub FieldsOf : Sheet → ℕ → List ℕ → Type 0
-FieldsOf s n fields = (k : ℕ) → k < n → get_or fields k 0 ≡ word (kilograms (k * s.water.step))
+abbrev pub FieldsTo : Sheet → ℕ → List ℕ → Type 0
+FieldsTo s n fields = (k : ℕ) → k < n → get_or fields k 0 ≡ word (kilograms (k * s.water.step))
+
+-- a field for each water
+pub record FieldsOf (s : Sheet) (fields : List ℕ) : Type 0 where
+  pub count : length fields ≡ waters s
+  pub each : FieldsTo s (waters s) fields

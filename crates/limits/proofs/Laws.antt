@@ -21,9 +21,10 @@ use Rattle.planes.specs.Plane.{kept_at}
 use Rattle.planes.proofs.Lines.{at_most_lem, laden_on_total, laden_on_moment, laden_on_part, dry_line, wet_line, nlp_line, fwd_line, aft_line}
 use Rattle.planes.proofs.Arms.{last, kept_is}
 use Rattle.aboard.specs.declared.Laden.{Laden}
-use Rattle.aboard.specs.Aboard.{safe_arm, plus, scaled, Stands, Beside, LoadOf}
+use Rattle.aboard.specs.Sides.{safe_arm}
+use Rattle.aboard.specs.Aboard.{plus, scaled, Stands, Beside, LoadOf}
 use Rattle.aboard.proofs.Standing.{is_by, stands-plus, load-scaled}
-use Rattle.limits.specs.Seats.{forward_margin, safe_margin, in_seat}
+use Rattle.limits.specs.Seats.{forward_margin, safe_margin, weight_test, fwd_test, aft_test, in_seat}
 
 -- no half grams are no grams
 no_halves : (n : ℕ) → eqb n 0 ≡ eqb (2 * n) 0
@@ -68,17 +69,6 @@ module _ (s : Sheet) {t m : ℤ} (x : Laden) (h : Stands s t m x) where
 
 -- ---- and with k steps more
 
--- the order that each line is, of what is aboard and what a step adds
-module _ (x y : Laden) (k : ℕ) where
-  abbrev pub weight_test : ℕ → Bool
-  weight_test most = leb (x.weight + y.weight * k) (2 * most)
-
-  abbrev pub fwd_test : Bool
-  fwd_test = leb ((forward_margin x).down + (forward_margin y).down * k) ((forward_margin x).up + (forward_margin y).up * k)
-
-  abbrev pub aft_test : Bool
-  aft_test = leb ((safe_margin x).down + (safe_margin y).down * k) ((safe_margin x).up + (safe_margin y).up * k)
-
 -- whose load sits at an arm
 module _ (s : Sheet) (arm : ℤ) (b : Balance) (r v : ℕ) (x y : Laden) (h : Beside s b r v x) (l : LoadOf s s.front.step arm y) (k : ℕ) where
   abbrev load : ℕ
@@ -89,7 +79,7 @@ module _ (s : Sheet) (arm : ℤ) (b : Balance) (r v : ℕ) (x y : Laden) (h : Be
       rw (laden_on_total s arm b r load v, laden_on_moment s arm b r load v)
       (stands-plus s x (scaled k y) h (load-scaled s k s.front.step arm y l))
 
-  pub weight_line : (most : ℕ) → at_most most (laden s arm b r load v).total ≡ weight_test x y k most
+  pub weight_line : (most : ℕ) → at_most most (laden s arm b r load v).total ≡ weight_test x.weight y k (2 * most)
   weight_line most =
       weight_test_lem s (plus x (scaled k y)) whole most
       ∙ leb_by (x.weight + k * y.weight) (2 * most + 0) (x.weight + y.weight * k) (2 * most) (omega arith) (omega arith) refl
@@ -105,7 +95,7 @@ module _ (s : Sheet) (arm : ℤ) (b : Balance) (r v : ℕ) (x y : Laden) (h : Be
   aft_line_lem = aft_test_lem s (plus x (scaled k y)) whole ∙ by_margin safe_margin (omega arith) (omega arith)
 
   -- n is the non-lifting weight with the rear load aboard
-  pub nlp_line_lem : (n : ℕ) → pos n ≡ b.non_lifting +ℤ half_grams (pos r) → nlp_line s arm b r load v ≡ (eqb (2 * s.nlp) 0 || leb (n + y.weight * k) (2 * s.nlp))
+  pub nlp_line_lem : (n : ℕ) → pos n ≡ b.non_lifting +ℤ half_grams (pos r) → nlp_line s arm b r load v ≡ (eqb (2 * s.nlp) 0 || weight_test n y k (2 * s.nlp))
   nlp_line_lem n e =
       let more = weight_is (scaled k y) (load-scaled s k s.front.step arm y l) in
       let part : Is (laden s arm b r load v).non_lifting (n + k * y.weight) (0 + 0) = rw (laden_on_part s arm b r load v, ← e) (is_add (is_nat n) more) in

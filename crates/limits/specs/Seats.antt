@@ -1,6 +1,5 @@
 -- The front seat as the code has it, and which numbers of steps in it keep the limits.
-use Rattle.std.specs.Prelude.{◌≡◌, Bool, true, ◌&&◌, ℕ, ◌+◌, ◌*◌, leb}
-use Rattle.std.specs.Int.Signed.{le_z}
+use Rattle.std.specs.Prelude.{◌≡◌, Bool, true, ◌&&◌, ℕ, ◌+◌, ◌*◌, ℤ, leb}
 use Rattle.laws.specs.declared.Sides.{Sides}
 use Rattle.paper.specs.declared.Sheet.{Sheet}
 use Rattle.paper.specs.declared.Seat.{Seat}
@@ -11,7 +10,6 @@ use Rattle.aboard.specs.declared.Laden.{Laden}
 use Rattle.aboard.specs.Aboard.{LoadOf, Share}
 use Rattle.solver.specs.declared.Span.{Span}
 use Rattle.solver.specs.Span.{within}
-use Rattle.limits.specs.declared.Front.{Front}
 
 -- the margins of the moment: the moment less FWD's; 20 times the safe aft limit's less 20 times the moment
 abbrev pub forward_margin : Laden → Sides
@@ -24,13 +22,24 @@ safe_margin x = record { up = 20 * x.moment.down + x.safe.up; down = 20 * x.mome
 abbrev pub in_seat : Sheet → ℕ → Bool
 in_seat s k = leb s.least (k * s.front.step) && leb (k * s.front.step) s.front.most
 
-pub record FrontOf (s : Sheet) (q : Front) : Type 0 where
-  pub steps : (k : ℕ) → within q.steps k ≡ (in_seat s k && leb 1 (k * s.front.step))
-  pub lower : LoadOf s s.front.step q.seat.lower q.lower
-  pub higher : LoadOf s s.front.step q.seat.higher q.higher
-  pub order : le_z q.seat.lower q.seat.higher ≡ true
-  pub lower_share : Share q.lower
-  pub higher_share : Share q.higher
+-- and somebody is in the seat
+abbrev pub is_load : Sheet → ℕ → Bool
+is_load s k = in_seat s k && leb 1 (k * s.front.step)
+
+-- what a step weighs and turns at an arm
+pub record StepAt (s : Sheet) (arm : ℤ) (x : Laden) : Type 0 where
+  pub load : LoadOf s s.front.step arm x
+  pub share : Share x
+
+-- the order that each line is, of what is aboard and k steps with what a step adds
+abbrev pub weight_test : ℕ → Laden → ℕ → ℕ → Bool
+weight_test weight y k most = leb (weight + y.weight * k) most
+
+abbrev pub fwd_test : Laden → Laden → ℕ → Bool
+fwd_test x y k = leb ((forward_margin x).down + (forward_margin y).down * k) ((forward_margin x).up + (forward_margin y).up * k)
+
+abbrev pub aft_test : Laden → Laden → ℕ → Bool
+aft_test x y k = leb ((safe_margin x).down + (safe_margin y).down * k) ((safe_margin x).up + (safe_margin y).up * k)
 
 -- some steps of the seat
 abbrev pub Seated : Sheet → Span → Type 0

@@ -16,35 +16,34 @@ ghost use Rattle.balance.specs.Balance.{plain, Bounded};
 ghost use Rattle.judge.specs.Standing.{stands_in, plainly, Sound};
 
 use balance::Balance;
-use group::{LINE, WATERS};
+use group::{LINE, Terms, WATERS};
 use judge::{Standing, Weighed};
 use paper::{Placard, Seat, Sheet};
 use seat::InForce;
 
 // A line for each row, and how many of them are blank.
-fn put_rows(s: Sheet, f: Seat, b: Balance, out: &mut [u8]) -> usize
-    requires { (first_number (sheet_faults s) ≡ 0) × (bad_ends f ≡ false) × Bounded 1024 b × (line_length * row_count s ≤ length out.old) }
-    ensures { (result ≡ blank_count s f (plain b)) × (out.new ≡ written out.old 0 (text s f (plain b))) }
+fn put_rows(force: &InForce, b: Balance, out: &mut [u8]) -> usize
+    requires { Bounded 1024 b × (line_length * row_count force.now.sheet ≤ length out.old) }
+    ensures { let f = force.now in (result ≡ blank_count f.sheet f.seat (plain b)) × (out.new ≡ written out.old 0 (text f.sheet f.seat (plain b))) }
 {
-    let t = group::terms_of(s, f);
-    let rears = sheet::loads(s.rear) as usize;
-    let waters = sheet::loads(s.water) as usize;
-    let mut fields = [line::field(0); WATERS];
-    group::put_waters(s, waters, &mut fields);
+    let terms = Terms::new(*force);
+    let rears = sheet::loads(force.sheet.rear) as usize;
+    let waters = sheet::loads(force.sheet.water) as usize;
+    let mut room = [line::field(0); WATERS];
+    let fields = &mut room[..waters];
+    group::put_waters(force, fields);
     let mut none = 0;
-    let mut j = 0;
-    while j < rears {
-        none += group::put_group(s, t, b, j, waters, &fields, out);
-        j += 1;
+    for j in 0..rears {
+        none += terms.put_group(b, j, fields, out);
     }
     none
 }
 
 // How many rows the placard of a sheet has.
-fn row_count(s: Sheet) -> usize
-    requires { first_number (sheet_faults s) ≡ 0 }
-    ensures { (result ≡ row_count s) × (result ≤ 256) }
+fn row_count(force: &InForce) -> usize
+    ensures { (result ≡ row_count force.now.sheet) × (result ≤ 256) }
 {
+    let s = &force.sheet;
     laws::times(sheet::loads(s.rear), sheet::loads(s.water)) as usize
 }
 

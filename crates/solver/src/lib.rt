@@ -24,44 +24,46 @@ pub fn ceil_div(x: u64, b: u64) -> u64
     if x == 0 { 0 } else { (x - 1) / b + 1 }
 }
 
-// The part of a span whose numbers k make at.up + each.up * k at least at.down + each.down * k.
-pub fn narrow(s: Span, at: Sides, each: Sides) -> Span
-    ensures { (k : ℕ) → within result k ≡ (within s k && leb (at.down + each.down * k) (at.up + each.up * k)) }
-{
-    if each.down <= each.up {
-        if at.down <= at.up {
-            return s;
-        }
-        if each.up == each.down {
-            return Span { lo: 1, hi: 0 };
-        }
-        let least = ceil_div(at.down - at.up, each.up - each.down);
-        if least <= s.lo {
-            return s;
-        }
-        return Span {
-            lo: least,
-            hi: s.hi,
-        };
-    }
-    if at.up < at.down {
-        return Span { lo: 1, hi: 0 };
-    }
-    let most = (at.up - at.down) / (each.down - each.up);
-    if s.hi <= most {
-        return s;
-    }
-    Span { lo: s.lo, hi: most }
-}
+impl Span {
+    // No number.
+    const NONE: Span = Span { lo: 1, hi: 0 };
 
-// The row of the loads whose number of steps is in a span: the first and the last of them.
-pub fn row_of(s: Span, step: u64) -> Row
-    requires { (0 < step) × ((k : ℕ) → within s k ≡ true → k * step < 2 ^ 60) }
-    ensures { (n : ℕ) → ((k : ℕ) → within s k ≡ true → k * step ≤ n) → result ≡ row_of (step_in step s) n }
-{
-    if s.lo <= s.hi {
-        Row::Range(s.lo * step, s.hi * step)
-    } else {
-        Row::Blank
+    // The part of a span whose numbers k make at.up + each.up * k at least at.down + each.down * k.
+    pub fn narrow(self, at: Sides, each: Sides) -> Span
+        ensures { (k : ℕ) → within result k ≡ (within self k && leb (at.down + each.down * k) (at.up + each.up * k)) }
+    {
+        if each.down <= each.up {
+            if at.down <= at.up {
+                return self;
+            }
+            if each.up == each.down {
+                return Span::NONE;
+            }
+            let least = ceil_div(at.down - at.up, each.up - each.down);
+            return Span {
+                lo: least.max(self.lo),
+                hi: self.hi,
+            };
+        }
+        if at.up < at.down {
+            return Span::NONE;
+        }
+        let most = (at.up - at.down) / (each.down - each.up);
+        Span {
+            lo: self.lo,
+            hi: most.min(self.hi),
+        }
+    }
+
+    // The row of the loads whose number of steps is in a span: the first and the last of them.
+    pub fn row(self, step: u64) -> Row
+        requires { (0 < step) × ((k : ℕ) → within self k ≡ true → k * step < 2 ^ 60) }
+        ensures { (n : ℕ) → ((k : ℕ) → within self k ≡ true → k * step ≤ n) → result ≡ row_of (step_in step self) n }
+    {
+        if self.lo <= self.hi {
+            Row::Range(self.lo * step, self.hi * step)
+        } else {
+            Row::Blank
+        }
     }
 }

@@ -7,8 +7,9 @@ use Rattle.aboard.proofs.Standing.{in_range_lem}
 use Rattle.limits.proofs.step_at.Goals as goal
 
 pub split-requires : goal.split-requires
-split-requires c = rw (to_z-of_z c.ranges.arm) (arm_range c.args.arm c.requires.1)
+split-requires c = rw (to_z-of_z c.ranges.arm) (arm_range c.args.arm c.requires)
 
 pub grams_at-requires : goal.grams_at-requires
 grams_at-requires c =
-    (omega (arith, (accepted-sheet c.args.s c.requires.0).steps.front.1), in_range_lem c.split.ensures, c.requires.2.ranges)
+    let x = c.args.arms.now.force in
+    (omega (arith, (accepted-sheet x.sheet x.accepted).steps.front.1), in_range_lem c.split.ensures)

@@ -2,17 +2,20 @@
 use mathlib.Core.Path.{◌∙◌}
 use Prim.Native.Nat.{◌<◌}
 use Rattle.sheet.proofs.Accepted.{accepted-sheet}
+use Rattle.seat.specs.declared.InForce.{InForce}
 use Rattle.limits.proofs.Laws.{parts, in_seat_lem, occupied}
 use Rattle.limits.proofs.steps.Goals as goal
 
+step_in : (x : InForce) → 0 < x.sheet.front.step
+step_in x = (accepted-sheet x.sheet x.accepted).steps.front.0
+
 pub ceil_div-requires : goal.ceil_div-requires
-ceil_div-requires c = (accepted-sheet c.args.s c.requires).steps.front.0
+ceil_div-requires c = step_in c.args.force.now
 
 pub nonzero_div-all : goal.nonzero_div-all
-nonzero_div-all c = (accepted-sheet c.args.s c.requires).steps.front.0
+nonzero_div-all c = step_in c.args.force.now
 
 pub returns : goal.returns
 returns c =
-    let step : 0 < c.args.s.front.step = (accepted-sheet c.args.s c.requires).steps.front.0 in
-    let s = c.args.s in
-    λ k. c.narrow.ensures k ∙ parts (in_seat_lem s c.ceil_div.result step c.ceil_div.ensures k) (occupied s.front.step k)
+    let x = c.args.force.now in
+    λ k. c.narrow.ensures k ∙ parts (in_seat_lem x.sheet c.ceil_div.result (step_in x) c.ceil_div.ensures k) (occupied x.sheet.front.step k)

@@ -6,15 +6,21 @@ use Rattle.sheet.proofs.Accepted.{accepted-sheet}
 use Rattle.page.proofs.row_count.Goals as goal
 
 pub loads-requires : goal.loads-requires
-loads-requires c = let a = accepted-sheet c.args.s c.requires in (a.steps.rear.0, omega (arith, a.ranges.rear))
+loads-requires c =
+    let x = c.args.force.now in
+    let a = accepted-sheet x.sheet x.accepted in
+    (a.steps.rear.0, omega (arith, a.ranges.rear))
 
 pub loads-requires-2 : goal.loads-requires-2
 loads-requires-2 c =
-    let a = accepted-sheet c.args.s c.requires in (a.steps.water.0, a.ranges.water)
+    let x = c.args.force.now in
+    let a = accepted-sheet x.sheet x.accepted in
+    (a.steps.water.0, a.ranges.water)
 
 pub returns : goal.returns
 unfolding row_count
 returns c =
-    let a = accepted-sheet c.args.s c.requires in
-    let e : c.times.result ≡ row_count c.args.s = rw (c.times.ensures.0, c.loads.ensures.0, c.loads-2.ensures.0) in
+    let x = c.args.force.now in
+    let a = accepted-sheet x.sheet x.accepted in
+    let e : c.times.result ≡ row_count x.sheet = rw (c.times.ensures.0, c.loads.ensures.0, c.loads-2.ensures.0) in
     (e, omega (arith, a.steps.rows))

@@ -1,4 +1,4 @@
--- `group::put_row` meets its contract: the row is the one of what is aboard, and its line goes into the part of the buffer behind
+-- `Terms::put_row` meets its contract: the row is the one of what is aboard, and its line goes into the part of the buffer behind
 -- the lines before it. Assumes nothing.
 use mathlib.Core.Path.{◌≡◌, ap, ◌∙◌}
 use Prim.Native.Nat.{◌-◌, ◌*◌}
@@ -6,7 +6,7 @@ use lib.ListN.{length, take, drop}
 use Rattle.paper.specs.Placard.{line}
 use Rattle.laws.specs.Written.{written, written-part}
 use Rattle.group.specs.Numbered.{blanks}
-use Rattle.group.proofs.put_row.Goals as goal
+use Rattle.group.proofs.Terms.put_row.Goals as goal
 
 pub returns : goal.returns
 returns c =

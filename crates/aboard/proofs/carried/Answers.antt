@@ -1,8 +1,0 @@
--- `aboard::carried` meets its contract: the sums as they stand, and what a sum stands for. Assumes nothing.
-use Rattle.aboard.proofs.Standing.{beside_more}
-use Rattle.aboard.proofs.carried.Goals as goal
-
-pub returns : goal.returns
-returns c =
-    let a = c.args in
-    (rw (c.both.ensures, c.both-2.ensures, c.both-3.ensures), λ s b r w h k. rw (c.both.ensures, c.both-2.ensures, c.both-3.ensures) (beside_more s b r w a.x a.load h k))

@@ -1,0 +1,129 @@
+-- `Terms::put_group` meets its contract. The loop's invariant: what is aboard is the rear load and the water of k steps, and the
+-- first k rows of the group are put, and their blank ones counted, whatever the balance that the loop began with. Assumes nothing.
+use mathlib.Core.Path.{◌≡◌, refl, ap, ◌∙◌}
+use mathlib.Core.List.{List}
+use Prim.Native.Nat.{ℕ, ◌+◌, ◌*◌, ◌≤◌, ◌<◌}
+use native.Mathlib.Nat.{add-mul, one-mul, zero-mul}
+use native.Mathlib.Omega.{arith}
+use lib.IntN.{pos, ◌+ℤ◌}
+use lib.ListN.{length}
+use Rattle.laws.specs.Written.{written, length-written}
+use Rattle.laws.specs.Z.{is_nat, is_add, same}
+use Rattle.paper.specs.Units.{half_grams}
+use Rattle.paper.specs.Rows.{row_count}
+use Rattle.sheet.proofs.Accepted.{accepted-sheet}
+use Rattle.seat.specs.declared.InForce.{InForce}
+use Rattle.balance.specs.declared.Balance.{Balance as Carried}
+use Rattle.balance.specs.Balance.{plain}
+use Rattle.planes.proofs.Lines.{half_is}
+use Rattle.aboard.proofs.Standing.{room-more, room_least}
+use Rattle.line.proofs.Length.{length-line}
+use Rattle.group.specs.Numbered.{rears, waters, blanks}
+use Rattle.group.specs.Shared.{FieldsOf}
+use Rattle.group.proofs.Buffer.{row_in, line_in_lem, group_room, rear_in, group_begun, group_more, group_done}
+use Rattle.group.proofs.Terms.put_group.Goals as goal
+
+-- the non-lifting weight with the rear load
+part_with : (b : Carried) (r : ℕ) → pos (b.nonlifting + 2 * r) ≡ (plain b).non_lifting +ℤ half_grams (pos r)
+part_with b r = same (is_nat (b.nonlifting + 2 * r)) (is_add (is_nat b.nonlifting) (half_is r)) (omega arith)
+
+-- a group's rear load fits
+rear_most : (x : InForce) (j : ℕ) → j < rears x.sheet → j * x.sheet.rear.step ≤ 500000
+rear_most x j h = omega (arith, rear_in x.sheet j h, (accepted-sheet x.sheet x.accepted).ranges.rear)
+
+-- its rows are among the sheet's, and these are few
+room_in : (x : InForce) (fields : List ℕ) (j : ℕ) → FieldsOf x.sheet fields → j < rears x.sheet → (j * length fields + length fields ≤ row_count x.sheet) × (row_count x.sheet ≤ 256)
+room_in x fields j f h =
+    (group_room x.sheet (length fields) f.count j h, (accepted-sheet x.sheet x.accepted).steps.rows)
+
+pub beside-x-requires : goal.beside-x-requires
+beside-x-requires c = (c.requires.0, rear_most c.args.self.now.front.arms.force c.args.j c.requires.1)
+
+pub overflow_mul-rear : goal.overflow_mul-rear
+overflow_mul-rear c = omega (arith, rear_most c.args.self.now.front.arms.force c.args.j c.requires.1)
+
+pub overflow_mul-rear-2 : goal.overflow_mul-rear-2
+overflow_mul-rear-2 c = omega (arith, rear_most c.args.self.now.front.arms.force c.args.j c.requires.1)
+
+pub overflow_add-b : goal.overflow_add-b
+overflow_add-b c =
+    omega (arith, rear_most c.args.self.now.front.arms.force c.args.j c.requires.1, c.requires.0.ranged.part, c.requires.0.ranged.most)
+
+pub field-field-requires : goal.field-field-requires
+field-field-requires c = omega (arith, rear_most c.args.self.now.front.arms.force c.args.j c.requires.1)
+
+pub overflow_mul-first : goal.overflow_mul-first
+overflow_mul-first c =
+    let room = room_in c.args.self.now.front.arms.force c.args.fields.now c.args.j c.requires.2 c.requires.1 in
+    omega (arith, room.0, room.1)
+
+pub loop-k-init : goal.loop-k-init
+loop-k-init c =
+    let force = c.args.self.now.front.arms.force in
+    let z : 0 * force.sheet.water.step ≡ 0 = zero-mul force.sheet.water.step in
+    (omega arith, omega arith, refl, c.beside-x.ensures.0, λ g h. (rw z h, λ none. group_begun force.sheet force.seat g _ c.args.out.now))
+
+pub carried-next-requires : goal.carried-next-requires
+carried-next-requires c =
+    let room = room_in c.args.self.now.front.arms.force c.args.fields.now c.args.j c.requires.2 c.requires.1 in
+    (room_least c.loop-k.k 256 c.loop-k.x (omega (arith, room.0, room.1)) c.loop-k.invariant.3, c.args.self.now.share_in)
+
+pub overflow_add-first : goal.overflow_add-first
+overflow_add-first c =
+    let room = room_in c.args.self.now.front.arms.force c.args.fields.now c.args.j c.requires.2 c.requires.1 in
+    omega (arith, room.0, room.1)
+
+pub put_row-none-requires : goal.put_row-none-requires
+put_row-none-requires c =
+    let room = room_in c.args.self.now.front.arms.force c.args.fields.now c.args.j c.requires.2 c.requires.1 in (
+      c.with_none-span.ensures.0,
+      room_least c.loop-k.k 256 c.loop-k.x (omega (arith, room.0, room.1)) c.loop-k.invariant.3,
+      omega (arith, room.0, room.1),
+      omega (arith, room.0, c.requires.3, c.loop-k.invariant.2),
+    )
+
+pub loop-k-preserved : goal.loop-k-preserved
+loop-k-preserved c =
+    let a = c.args in
+    let force = a.self.now.front.arms.force in
+    let s = force.sheet in
+    let f = force.seat in
+    let n = length a.fields.now in
+    let room = room_in force a.fields.now a.j c.requires.2 c.requires.1 in
+    let k = c.loop-k.k in
+    let water = k * s.water.step in
+    let rear = a.j * s.rear.step in
+    let inv = c.loop-k.invariant in
+    let count = c.requires.2.count in
+    let taken : k < n = c.loop-k-test.true in
+    let field = c.requires.2.each k (omega (arith, count, taken)) in
+    let g₀ = plain a.b in
+    let h₀ = c.beside-x.ensures.1 in
+    let none₀ = c.with_none-span.ensures.1 g₀ rear h₀ (part_with a.b rear) in
+    let whole = (c.put_row-none.ensures.1 g₀ rear water c.field-field.ensures field (inv.4 g₀ h₀).0 none₀).1 in
+    let next : (k + 1) * s.water.step ≡ water + s.water.step = omega (arith, add-mul k 1 s.water.step, one-mul s.water.step) in (
+      omega arith,
+      omega (arith, c.put_row-none.ensures.0),
+      ap length whole ∙ length-written c.loop-k.out _ _ (rw length-line (omega (arith, room.0, c.requires.3, inv.2))) ∙ inv.2,
+      room-more k c.loop-k.x a.self.now.share c.carried-next.result c.carried-next.ensures.0 inv.3 a.self.now.share_in,
+      λ g h. (
+        rw next (c.carried-next.ensures.1 s g rear water (inv.4 g h).0 a.self.now.share_is),
+        λ none.
+            let put = c.put_row-none.ensures.1 g rear water c.field-field.ensures field (inv.4 g h).0 none in
+            group_more s f g (a.j * n) k c.loop-k.none c.put_row-none.result a.out.now c.loop-k.out _ ((inv.4 g h).1 none)
+            (omega (arith, room.0, c.requires.3))
+            (put.0 ∙ ap blanks (row_in s n count a.j k taken f g))
+            (put.1 ∙ ap (λ y. written c.loop-k.out (36 * (a.j * n + k)) y) (line_in_lem s n count a.j k taken f g)),
+      ),
+    )
+
+pub returns : goal.returns
+returns c =
+    let a = c.args in
+    let force = a.self.now.front.arms.force in
+    let g = plain a.b in
+    let none = c.with_none-span.ensures.1 g (a.j * force.sheet.rear.step) c.beside-x.ensures.1 (part_with a.b (a.j * force.sheet.rear.step)) in
+    let put = (c.loop-k.invariant.4 g c.beside-x.ensures.1).1 none in
+    let count = c.requires.2.count in
+    let done = group_done force.sheet force.seat g _ c.loop-k.k c.loop-k.none (a.j * waters force.sheet) (waters force.sheet) a.out.now c.loop-k.out (ap (λ n. a.j * n) count) (omega (arith, count)) put in
+    (omega (arith, count), done.0, c.loop-k.invariant.2, done.1)
