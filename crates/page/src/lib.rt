@@ -61,23 +61,23 @@ fn refused(number: u64) -> Placard
 
 // The placard of what stands and what is in force: 7 before a weighing, 8 without a sheet, 11 where the buffer is too
 // short, and then no byte of it changes.
-pub fn answer(standing: Standing, sheet: InForce, out: &mut [u8]) -> Placard
-    requires { Sound 1024 standing × ((s : Sheet) (f : Seat) → found sheet ≡ some (s, f) → (first_number (sheet_faults s) ≡ 0) × (bad_ends f ≡ false)) }
+pub fn answer(standing: Standing, sheet: Option<InForce>, out: &mut [u8]) -> Placard
+    requires { Sound 1024 standing }
     ensures { (es : List Entry) → plainly standing ≡ stands_in es → found sheet ≡ in_force es → (result ≡ (placard_answer es out.old).0) × (out.new ≡ (placard_answer es out.old).1) }
 {
     let last = standing.weighed;
     let Weighed::Balance(b) = last else {
         return refused(7);
     };
-    let InForce::Found(s, f) = sheet else {
+    let Some(force) = sheet else {
         return refused(8);
     };
-    let rows = row_count(s);
+    let rows = row_count(&force);
     let bytes = LINE * rows;
     if out.len() < bytes {
         return refused(11);
     }
-    let blank = put_rows(s, f, b, out);
+    let blank = put_rows(&force, b, out);
     Placard {
         number: 0,
         bytes,
