@@ -22,7 +22,7 @@ use Rattle.balance.specs.Balance.{plain}
 
 -- ---- a range as two orders
 
-ranged : {lo hi z : ℤ} → between lo hi z ≡ true → (lo ≤ℤ z) × (z ≤ℤ hi)
+pub ranged : {lo hi z : ℤ} → between lo hi z ≡ true → (lo ≤ℤ z) × (z ≤ℤ hi)
 ranged {lo} {hi} {z} e =
     let l = left (le_z lo z) (le_z z hi) e in
     let h = right (le_z lo z) (le_z z hi) e in

@@ -1,16 +1,17 @@
 #![tactic(auto)]
 
-// What a change makes of a balance: its number of refusal, and the balance afterwards.
-ghost use Rattle.std.specs.Prelude.{◌≡◌, cond, ◌+◌, ◌^◌, ◌≤◌, ◌<◌, eqb, pos, negsuc, ◌+ℤ◌, ◌-ℤ◌, ◌*ℤ◌, ◌≤ℤ◌};
+// What a change makes of a balance, or why it is refused.
+ghost use Rattle.std.specs.Prelude.{◌≡◌, cond, ℕ, ◌+◌, ◌≤◌, eqb, IfOk, pos, negsuc, ◌+ℤ◌, ◌-ℤ◌, ◌*ℤ◌, ◌≤ℤ◌};
 ghost use Rattle.std.proofs.Math.Option.{some};
 ghost use Rattle.paper.specs.Record as paper;
 ghost use Rattle.paper.specs.Units.{between, half_grams};
+ghost use Rattle.paper.specs.Numbers.{number_in};
 ghost use Rattle.paper.specs.Refusals.{is_change, change_faults, first_number};
-ghost use Rattle.balance.specs.Balance.{an_entry, plain, Ranged};
+ghost use Rattle.balance.specs.Balance.{an_entry, plain, Bounded};
 
 use balance::Balance;
 use laws::Sides;
-use paper::{Arm, Change, Weight};
+use paper::{Arm, Change, Refusal, Weight};
 
 // Whether c and the flag are in their ranges.
 fn in_range(x: Change) -> bool
@@ -79,42 +80,33 @@ fn moment_of(gain: i64, arm: i64) -> Sides
     }
 }
 
-// The number of refusal behind 9 and 7.
-pub fn number(b: Balance, x: Change) -> u64
-    requires { Ranged b }
-    ensures { result ≡ first_number (change_faults (some (plain b)) x) }
+// The balance behind an accepted change, or why it is refused behind 9 and 7. What is added to M goes to the side that its
+// sign says.
+pub fn changed(b: Balance, x: Change) -> Result<Balance, Refusal>
+    requires { Bounded 1024 b }
+    ensures number { number_in result ≡ first_number (change_faults (some (plain b)) x) }
+    ensures accepted { IfOk result (λ r. (plain r ≡ paper.changed (plain b) x) × ((k : ℕ) → Bounded k b → Bounded (k + 1) r)) }
 {
     if !Arm::holds(x.arm) {
-        return 2;
+        return Err(Refusal::Distance);
     }
     if !in_range(x) {
-        return 6;
+        return Err(Refusal::Change);
     }
     let gain = half_grams(x.c);
     let total = gained(b.total, gain);
     if !within(Weight::HALVES_LEAST, Weight::HALVES_MOST, total) {
-        return 6;
+        return Err(Refusal::Change);
     }
-    if !within(0, total, gained(b.nonlifting, counted(x.flag, gain))) {
-        return 3;
-    }
-    0
-}
-
-// G, M and n afterwards: what is added to M goes to the side that its sign says.
-pub fn changed(b: Balance, x: Change) -> Balance
-    requires ranged { Ranged b × (b.aft < 2 ^ 59) × (b.fore < 2 ^ 59) }
-    requires accepted { first_number (change_faults (some (plain b)) x) ≡ 0 }
-    ensures { (plain result ≡ paper.changed (plain b) x) × Ranged result × (result.aft ≤ b.aft + an_entry) × (result.fore ≤ b.fore + an_entry) }
-{
-    let gain = half_grams(x.c);
-    let total = gained(b.total, gain);
     let part = gained(b.nonlifting, counted(x.flag, gain));
+    if !within(0, total, part) {
+        return Err(Refusal::NonLifting);
+    }
     let m = moment_of(gain, x.arm);
-    Balance {
+    Ok(Balance {
         total: laws::size(total),
         aft: b.aft + m.up,
         fore: b.fore + m.down,
         nonlifting: laws::size(part),
-    }
+    })
 }

@@ -2,6 +2,7 @@
 use mathlib.Core.Path.{◌≡◌, refl, sym, ap, ◌∙◌}
 use mathlib.Core.List.{List, [], ◌∷◌, ◌++◌}
 use mathlib.Core.Option.{none, some, bind}
+use Rattle.std.specs.Prelude.{Option, Some, None}
 use Prim.Native.Nat.{ℕ, ◌+◌, ◌-◌, ◌≤◌, ◌<◌}
 use native.Mathlib.Decide.{dec_le}
 use native.Mathlib.Numerals.{add-one}
@@ -10,13 +11,14 @@ use lib.ListN.{length, get_or, drop, replicate, length-drop, drop_of_length-le}
 use lib.Seq.{drop-cons}
 use borrow.Author.Tests.{le-leb, lt-leb}
 use Rattle.paper.specs.declared.Entry.{Entry}
+use Rattle.paper.specs.declared.Kind.{Kind}
+use Rattle.paper.specs.declared.Kind.TheVariants as kind
+use Rattle.paper.specs.Numbers.{code_of}
 use Rattle.paper.specs.File.{Field, field_value, layout_of, the_fields, take_entry}
 use Rattle.format.specs.Fields.{widths, total, numbers_from, values_by, take_fields_lem, numbers-length, widths-length}
 use Rattle.format.specs.Rows.{fields_at}
 use Rattle.layout.specs.Table.{padded, entry_with}
 use Rattle.layout.proofs.Rows.{no_row}
-use Rattle.entries.specs.declared.Walk.TheVariants.{Got, Nothing}
-use Rattle.entries.specs.declared.Walk.{Walk}
 use Rattle.fields.specs.Words.{words_at}
 use Rattle.entries.specs.Walking.{fields_walk, walk_at}
 
@@ -27,7 +29,7 @@ values_front [] ns ms e = refl
 values_front (f ∷ fs) [] ms e = absurd (omega arith)
 values_front (f ∷ fs) (n ∷ ns) ms e = ap (λ vs. field_value f n ∷ vs) (values_front fs ns ms (omega arith))
 
-pub at_end : (s : List ℕ) (at : ℕ) → length s ≤ at → Nothing ≡ walk_at s at
+pub at_end : (s : List ℕ) (at : ℕ) → length s ≤ at → None ≡ walk_at s at
 unfolding walk_at take_entry
 at_end s at h = rw (drop_of_length-le s h)
 
@@ -42,16 +44,16 @@ module _ (s : List ℕ) (at : ℕ) (h : at < length s) where
   left_over : length behind ≡ length s - (at + 1)
   left_over = length-drop (at + 1) s
 
-  no_row_here : layout_of (get_or s at 0) ≡ none → Nothing ≡ walk_at s at
+  no_row_here : layout_of (get_or s at 0) ≡ none → None ≡ walk_at s at
   unfolding walk_at take_entry bind
   no_row_here e = rw (here, e)
 
   module _ (fs : List Field) (e : layout_of (get_or s at 0) ≡ some fs) where
-    cut_off : length s - (at + 1) < total (widths fs) → Nothing ≡ walk_at s at
+    cut_off : length s - (at + 1) < total (widths fs) → None ≡ walk_at s at
     unfolding walk_at take_entry bind
     cut_off k = rw (here, e, take_fields_lem fs behind, lt-leb (total (widths fs)) (length behind) (omega (arith, left_over)))
 
-    entry_here : total (widths fs) ≤ length s - (at + 1) → Got (entry_with (get_or s at 0) (padded (numbers_from (widths fs) behind))) (at + 1 + total (widths fs)) ≡ walk_at s at
+    entry_here : total (widths fs) ≤ length s - (at + 1) → Some (entry_with (get_or s at 0) (padded (numbers_from (widths fs) behind)), at + 1 + total (widths fs)) ≡ walk_at s at
     unfolding walk_at take_entry bind entry_with
     entry_here k =
         let n = total (widths fs) in
@@ -72,19 +74,29 @@ module _ (s : List ℕ) (at : ℕ) (h : at < length s) where
         ]
 
 -- as the code has it: a kind of the table, or none
-pub kind_got : (s : List ℕ) (at k : ℕ) (x : Walk) → at < length s → get_or s at 0 ≡ k → layout_of k ≡ some (fields_at k) → x ≡ fields_walk k s (at + 1) → x ≡ walk_at s at
-kind_got s at k x h e l w =
-    w ∙ ap (λ (j : ℕ). fields_walk j s (at + 1)) (sym e) ∙ kind_here s at h (fields_at k) (ap layout_of e ∙ l)
+kind_row : (k : Kind) → layout_of (code_of k) ≡ some (fields_at (code_of k))
+unfolding layout_of
+kind_row kind.Weighing = refl
+kind_row kind.Sheet = refl
+kind_row kind.Change = refl
+kind_row kind.Paired = refl
+kind_row kind.Seat = refl
 
-pub no_kind_got : (s : List ℕ) (at k : ℕ) → at < length s → get_or s at 0 ≡ k → (k ≡ 1 → ⊥) → (k ≡ 2 → ⊥) → (k ≡ 3 → ⊥) → (k ≡ 4 → ⊥) → (k ≡ 5 → ⊥) → Nothing ≡ walk_at s at
-no_kind_got s at k h e a b c d f = no_row_here s at h (ap layout_of e ∙ no_row k a b c d f)
+pub kind_got : (s : List ℕ) (at : ℕ) (k : Kind) (x : Option (Entry × ℕ)) → at < length s → code_of k ≡ get_or s at 0 → x ≡ fields_walk (code_of k) s (at + 1) → x ≡ walk_at s at
+kind_got s at k x h e w =
+    w ∙ ap (λ (j : ℕ). fields_walk j s (at + 1)) e ∙ kind_here s at h (fields_at (code_of k)) (ap layout_of (sym e) ∙ kind_row k)
+
+pub no_kind_got : (s : List ℕ) (at : ℕ) → at < length s → ((k : Kind) → code_of k ≡ get_or s at 0 → ⊥) → None ≡ walk_at s at
+no_kind_got s at h f =
+    let none_is = λ (k : Kind) (e : get_or s at 0 ≡ code_of k). f k (sym e) in
+    no_row_here s at h (no_row (get_or s at 0) (none_is kind.Weighing) (none_is kind.Sheet) (none_is kind.Change) (none_is kind.Paired) (none_is kind.Seat))
 
 -- the fields of a kind that takes n bytes behind its own
 module _ (k : ℕ) (s : List ℕ) (from n : ℕ) (e : n ≡ total (widths (fields_at k))) where
-  pub fields_short : length s - from < n → Nothing ≡ fields_walk k s from
+  pub fields_short : length s - from < n → None ≡ fields_walk k s from
   unfolding fields_walk
   fields_short h = rw (← e, lt-leb n (length s - from) h)
 
-  pub fields_got : n ≤ length s - from → (ns : List ℕ) (x : Entry) → ns ≡ words_at k (drop from s) → x ≡ entry_with k ns → Got x (from + n) ≡ fields_walk k s from
+  pub fields_got : n ≤ length s - from → (ns : List ℕ) (x : Entry) → ns ≡ words_at k (drop from s) → x ≡ entry_with k ns → Some (x, from + n) ≡ fields_walk k s from
   unfolding fields_walk
   fields_got h ns x w f = rw (← e, le-leb n (length s - from) h, f, w)

@@ -11,13 +11,17 @@ use lib.ListN.{length, get_or, take, replicate}
 use lib.Seq.{take_at}
 use Rattle.laws.specs.Lists.{at_most, at_most_lem}
 use Rattle.paper.specs.declared.Entry.{Entry}
+use Rattle.paper.specs.declared.Kind.{Kind}
+use Rattle.paper.specs.declared.Kind.TheVariants as kind
+use Rattle.paper.specs.contracts.Kind.{the_type}
+use denote.Enum.Declared.{tag_of}
+use Rattle.paper.specs.Numbers.{code_of}
 use Rattle.paper.specs.File.{Field, layout_of, kind_of, values_of, entry_bytes}
 use Rattle.format.specs.Fields.{widths, total, words_by, numbers_bytes, fields_bytes_lem, widths-length}
 use Rattle.format.specs.Rows.{fields_of, fields_at, rows, entry_layout, values_length}
 use Rattle.format.specs.Values.{fields_length}
 use Rattle.layout.specs.declared.Layout.{Layout}
-use Rattle.layout.specs.declared.Fields.{Fields}
-use Rattle.layout.specs.Table.{padded, row_of, words_of, fields_in}
+use Rattle.layout.specs.Table.{padded, row_of, words_of}
 
 -- ---- rows
 
@@ -71,22 +75,31 @@ entry_is : (e : Entry) → entry_bytes e ≡ kind_of e ∷ numbers_bytes (widths
 unfolding entry_bytes words_of
 entry_is e = ap (λ xs. kind_of e ∷ xs) (fields_bytes_lem (fields_of e) (values_of e))
 
-module _ (e : Entry) (f : Fields) (r : Layout) (x : f ≡ fields_in e) (y : r ≡ row_of (layout_of f.kind)) where
+-- a kind as a byte is its number
+pub code : (k : Kind) → tag_of the_type k + 1 ≡ code_of k
+code kind.Weighing = refl
+code kind.Sheet = refl
+code kind.Change = refl
+code kind.Paired = refl
+code kind.Seat = refl
+
+module _ (e : Entry) (k : Kind) (r : Layout) (x : code_of k ≡ kind_of e) (y : r ≡ row_of (layout_of (code_of k))) where
   pub row_in : RowOf r (fields_of e)
   row_in =
-      row_of_lem r (fields_of e) (y ∙ ap (λ (g : Fields). row_of (layout_of g.kind)) x ∙ ap row_of (entry_layout e))
+      row_of_lem r (fields_of e) (y ∙ ap (λ (n : ℕ). row_of (layout_of n)) x ∙ ap row_of (entry_layout e))
       (listed (kind_of e) (fields_of e) (entry_layout e))
-
-  words_in : take r.count f.words ≡ words_of e
-  unfolding words_of
-  words_in =
-      rw (row_in.count, x)
-      (take_at (words_of e) (replicate (15 - length (words_of e)) 0) (length (fields_of e)) (words_length (fields_of e) (values_of e) (values_length e)))
-
-  -- so its bytes are what the code puts
-  pub bytes_in_lem : f.kind ∷ numbers_bytes (take r.count r.widths) (take r.count f.words) ≡ entry_bytes e
-  bytes_in_lem = rw (row_in.taken, words_in, entry_is e) (ap (λ (g : Fields). g.kind ∷ numbers_bytes (widths (fields_of e)) (words_of e)) x)
 
   pub size_in : r.length + 1 ≡ length (entry_bytes e)
   unfolding entry_bytes
   size_in = omega (arith, row_in.size, fields_length (fields_of e) (values_of e) (values_length e))
+
+  -- so its bytes are what the code puts
+  module _ (ws : List ℕ) (z : ws ≡ padded (words_of e)) where
+    words_in : take r.count ws ≡ words_of e
+    unfolding words_of
+    words_in =
+        rw (row_in.count, z)
+        (take_at (words_of e) (replicate (15 - length (words_of e)) 0) (length (fields_of e)) (words_length (fields_of e) (values_of e) (values_length e)))
+
+    pub bytes_in_lem : code_of k ∷ numbers_bytes (take r.count r.widths) (take r.count ws) ≡ entry_bytes e
+    bytes_in_lem = rw (row_in.taken, words_in, entry_is e, x)

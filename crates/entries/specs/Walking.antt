@@ -1,26 +1,24 @@
 -- What reading an entry at a place finds.
-use Rattle.std.specs.Prelude.{cond, List, ℕ, ◌+◌, ◌-◌, leb, length, drop}
-use Rattle.std.proofs.Math.Option.{Option, none, some}
+use Rattle.std.specs.Prelude.{cond, List, ℕ, ◌+◌, ◌-◌, leb, length, drop, Option, Some, None}
+use Rattle.std.proofs.Math.Option.{Option as Taken, none, some}
 use Rattle.paper.specs.declared.Entry.{Entry}
 use Rattle.paper.specs.File.{take_entry}
 use Rattle.format.specs.Fields.{widths, total}
 use Rattle.format.specs.Rows.{fields_at}
 use Rattle.layout.specs.Table.{entry_with}
 use Rattle.fields.specs.Words.{words_at}
-use Rattle.entries.specs.declared.Walk.{Walk}
-use Rattle.entries.specs.declared.Walk.TheVariants.{Got, Nothing}
 
--- an entry of a kind whose fields begin at a place, and the place behind them; nothing where there are fewer bytes
-unfoldable pub fields_walk : ℕ → List ℕ → ℕ → Walk
+-- an entry of a kind whose fields begin at a place, and the place behind them; none where there are fewer bytes
+unfoldable pub fields_walk : ℕ → List ℕ → ℕ → Option (Entry × ℕ)
 fields_walk k s from =
     cond (leb (total (widths (fields_at k))) (length s - from))
-    (Got (entry_with k (words_at k (drop from s))) (from + total (widths (fields_at k))))
-    Nothing
+    (Some (entry_with k (words_at k (drop from s)), from + total (widths (fields_at k))))
+    None
 
 -- an entry with the place where the bytes behind it begin, of n bytes in all
-abbrev pub walk_of : ℕ → Option (Entry × List ℕ) → Walk
-walk_of n none = Nothing
-walk_of n (some p) = Got p.0 (n - length p.1)
+abbrev pub walk_of : ℕ → Taken (Entry × List ℕ) → Option (Entry × ℕ)
+walk_of n none = None
+walk_of n (some p) = Some (p.0, n - length p.1)
 
-unfoldable pub walk_at : List ℕ → ℕ → Walk
+unfoldable pub walk_at : List ℕ → ℕ → Option (Entry × ℕ)
 walk_at s at = walk_of (length s) (take_entry (drop at s))

@@ -19,7 +19,7 @@ use Rattle.record.specs.declared.Replayed.{Replayed}
 use Rattle.record.specs.Held.{slot_of, record_of, held_by, kept_or, answered, ReplayedAs}
 use Rattle.record.proofs.Turns.{kept_added}
 use Rattle.record.proofs.Replays as replays
-use Rattle.entries.specs.declared.Walk.TheVariants.{Got}
+use Rattle.std.specs.Prelude.{Some}
 use Rattle.stored.specs.Kinds.{entries_to, walk_to}
 use Rattle.stored.proofs.Reading.{Passed, none_passed, refused_entry, one_passed}
 
@@ -48,7 +48,7 @@ module _ (s : List ℕ) (k count i at : ℕ) (standing : Standing) (log : Record
   number_in : (e : Entry) → number_at i (plainly standing) e ≡ entry_number x.entries e
   number_in e = rw x.many at (replays.number_is x.entries now x.held e)
 
-  module _ (b : are_bytes s ≡ true) (h : i < count) (e : Entry) (place : ℕ) (w : walk_to k s at ≡ Got e place) where
+  module _ (b : are_bytes s ≡ true) (h : i < count) (e : Entry) (place : ℕ) (w : walk_to k s at ≡ Some (e, place)) where
     -- the next entry is one that its call refuses
     pub refused : 0 < number_at i (plainly standing) e → entries_to k count (drop 6 s) ≡ none
     refused n = refused_entry s k count i at x.entries x.passed b h e place w (rw (number_in e) at n)

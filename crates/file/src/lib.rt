@@ -10,7 +10,6 @@ ghost use Rattle.paper.specs.Journal as journal;
 ghost use Rattle.record.specs.Held.{slotted, held_by, answered};
 ghost use Rattle.file.specs.Longest.{IsLongest};
 
-use entries::Walk;
 use header::HEADER;
 use judge::{Judged, Standing, Weighed};
 use paper::Written;
@@ -92,7 +91,7 @@ pub fn read(r: Record, s: &[u8]) -> Kept
     let mut at = HEADER;
     let mut i = 0;
     while i < count {
-        let Walk::Got(entry, place) = stored::entry_to(s, at, kinds) else {
+        let Some((entry, place)) = stored::entry_to(s, at, kinds) else {
             return Kept { number: 12, log: r };
         };
         let Judged::Accepted(next) = judge::judge(i, standing, entry) else {

@@ -3,8 +3,11 @@
 // The header of a record's file: its length, its version, and the kinds of entry that a version has.
 ghost use Rattle.std.specs.Prelude.{◌≡◌, ◌≤◌, length};
 ghost use Rattle.laws.specs.Written.{written};
+ghost use Rattle.paper.specs.Numbers.{code_of};
 ghost use Rattle.paper.specs.File.{is_version, last_kind};
 ghost use Rattle.header.specs.Header.{header_of, headed};
+
+use paper::Kind;
 
 // The version that is written, and the first one, which is still read.
 pub const VERSION: u8 = 2;
@@ -32,13 +35,13 @@ fn is_version(v: u8) -> bool
 }
 
 // The last kind of entry that a version has: paired weighings and seats came with the second.
-pub fn last_kind(v: u8) -> u8
-    ensures { result ≡ last_kind v }
+pub fn last_kind(v: u8) -> Kind
+    ensures { code_of result ≡ last_kind v }
 {
     if v == FIRST {
-        return 3;
+        return Kind::Change;
     }
-    5
+    Kind::Seat
 }
 
 // Whether the length and the version are right.

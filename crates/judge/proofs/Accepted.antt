@@ -17,7 +17,8 @@ use Rattle.judge.proofs.Judging.{room_of}
 
 -- an entry that gets no number finds room
 pub room_for : (es : List Entry) (e : Entry) → entry_number es e ≡ 0 → length es < 64
-room_for es e n = room_of (length es) (stands_in es) e (sym (number_at_lem es e) ∙ n)
+unfolding stands_in
+room_for es e n = room_of (stands_in es) e (sym (number_at_lem es e) ∙ n)
 
 pub accepted-append : (es fs gs : List Entry) → accepted_after es (fs ++ gs) ≡ (accepted_after es fs && accepted_after (es ++ fs) gs)
 unfolding accepted_after

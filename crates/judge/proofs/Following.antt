@@ -1,15 +1,20 @@
 -- A list with one entry more: what stands in it and the number that the entry gets, by recursion on the list. Assumes nothing.
 use mathlib.Core.Path.{◌≡◌, refl, ◌∙◌, ap}
+use mathlib.Core.Bool.{Bool, true, false, cond, not}
 use mathlib.Core.List.{List, [], ◌∷◌, ◌++◌}
 use mathlib.Core.Option.{Option, none, some, map, or_else}
-use lib.ListN.{length}
+use Prim.Native.Nat.{ℕ}
+use lib.Dec.{eqb}
+use Rattle.laws.specs.Lists.{length_more}
+use Rattle.paper.specs.declared.Sheet.{Sheet}
 use Rattle.paper.specs.declared.Change.{Change}
 use Rattle.paper.specs.declared.Entry.{Entry}
 use Rattle.paper.specs.declared.Entry.TheVariants as entry
-use Rattle.paper.specs.Record.{Balance, Readings, alike, paired, weighed, changed, changed_by, changes_of, opened, last_weighing, balance_of, is_none, sheet_stands}
+use Rattle.paper.specs.Record.{Balance, Readings, alike, paired, weighed, changed, changed_by, changes_of, opened, last_weighing, balance_of, is_none, sheet_of, seat_of, sheet_stands}
 use Rattle.paper.specs.Refusals.{full, weighing_number, sheet_number, change_number, seat_number, entry_number}
-use Rattle.sheet.proofs.Lists.{sheet-more}
-use Rattle.judge.specs.Standing.{stands_in, number_at, after}
+use Rattle.seat.specs.InForce.{with_ends, in_force}
+use Rattle.seat.proofs.Lists.{force_more}
+use Rattle.judge.specs.Standing.{Stands, stands_in, number_at, balance_after, after, judged, kept_behind}
 
 -- a weighing, plain or paired, is the last
 last-opened : (es : List Entry) (e : Entry) (x : Readings) → opened e [] ≡ some (x, []) → last_weighing (es ++ e ∷ []) ≡ some (x, [])
@@ -75,32 +80,48 @@ said_more : (o : Option (Readings × List Change)) (x : Change) → map said (ma
 said_more none x = refl
 said_more (some p) x = ap {B = Option Balance} some (changed-more (weighed p.0) p.1 x)
 
-balance_more : (es : List Entry) (e : Entry) → balance_of (es ++ e ∷ []) ≡ (after (stands_in es) e).balance
-unfolding balance_of changed_by changes_of stands_in
+balance_more : (es : List Entry) (e : Entry) → balance_of (es ++ e ∷ []) ≡ balance_after (balance_of es) e
+unfolding balance_of changed_by changes_of
 balance_more es (entry.Weighing w) = ap (map said) (last-opened es (entry.Weighing w) (alike w) refl)
 balance_more es (entry.Sheet s) = ap (map said) (last_other es (entry.Sheet s) refl refl)
 balance_more es (entry.Change x) = ap (map said) (last_change es x) ∙ said_more (last_weighing es) x
 balance_more es (entry.Paired x) = ap (map said) (last-opened es (entry.Paired x) (paired x) refl)
 balance_more es (entry.Seat f) = ap (map said) (last_other es (entry.Seat f) refl refl)
 
-sheet_stands_lem : (es : List Entry) (e : Entry) → sheet_stands (es ++ e ∷ []) ≡ (after (stands_in es) e).sheet
-unfolding sheet_stands stands_in is_none or_else
-sheet_stands_lem es (entry.Weighing w) = rw (sheet-more es (entry.Weighing w))
-sheet_stands_lem es (entry.Sheet s) = rw (sheet-more es (entry.Sheet s))
-sheet_stands_lem es (entry.Change x) = rw (sheet-more es (entry.Change x))
-sheet_stands_lem es (entry.Paired x) = rw (sheet-more es (entry.Paired x))
-sheet_stands_lem es (entry.Seat f) = rw (sheet-more es (entry.Seat f))
-
 -- what stands in a list with one entry more
 pub stands-more : (es : List Entry) (e : Entry) → stands_in (es ++ e ∷ []) ≡ after (stands_in es) e
 unfolding stands_in
-stands-more es e = rw (balance_more es e, sheet_stands_lem es e)
+stands-more es e = rw (length_more es e, balance_more es e, force_more es e)
 
--- the number that an entry gets on a list goes by the list's length and what stands in it
-pub number_at_lem : (es : List Entry) (e : Entry) → entry_number es e ≡ number_at (length es) (stands_in es) e
+-- a sheet stands where one is in force
+sheet_in_force : (es : List Entry) → sheet_stands es ≡ not (is_none (in_force es))
+unfolding sheet_stands in_force is_none
+sheet_in_force es = by (sheet_of es)
+  where
+    by : (o : Option Sheet) → not (is_none o) ≡ not (is_none (map (with_ends (seat_of es)) o))
+    by none = refl
+    by (some s) = refl
+
+-- the number that an entry gets on a list goes by what stands in it
+pub number_at_lem : (es : List Entry) (e : Entry) → entry_number es e ≡ number_at (stands_in es) e
 unfolding entry_number number_at stands_in weighing_number sheet_number change_number seat_number full
 number_at_lem es (entry.Weighing w) = refl
 number_at_lem es (entry.Sheet s) = refl
 number_at_lem es (entry.Change x) = refl
 number_at_lem es (entry.Paired x) = refl
-number_at_lem es (entry.Seat f) = refl
+number_at_lem es (entry.Seat f) = rw (sheet_in_force es)
+
+-- a judgement by what stands in a list: the entry's number on it, and what stands where it is kept behind it
+pub judged_in : (es : List Entry) (e : Entry) → judged (stands_in es) e ≡ (entry_number es e, stands_in (kept_behind es e))
+unfolding judged kept_behind
+judged_in es e = rw (← number_at_lem es e, ← stands-more es e) (λ i. (entry_number es e, by (eqb (entry_number es e) 0) i))
+  where
+    by : (b : Bool) → cond b (stands_in (es ++ e ∷ [])) (stands_in es) ≡ stands_in (cond b (es ++ e ∷ []) es)
+    by true = refl
+    by false = refl
+
+-- a judgement that was made where a list stands
+pub judged_at : (es : List Entry) (o p : Stands) (e : Entry) (n : ℕ) → o ≡ stands_in es → ◌≡◌ {A = ℕ × Stands} (n, p) (judged o e) → (n ≡ entry_number es e) × (p ≡ stands_in (kept_behind es e))
+judged_at es o p e n h j =
+    let told = j ∙ ap (λ (q : Stands). judged q e) h ∙ judged_in es e in
+    (ap (λ (x : ℕ × Stands). x.0) told, ap (λ (x : ℕ × Stands). x.1) told)

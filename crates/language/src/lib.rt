@@ -3,10 +3,11 @@
 // The logbook's language: what a line says.
 ghost use Rattle.std.specs.Prelude.{◌≡◌, suc, ◌≤◌, eqb, length, get_or, drop};
 ghost use Rattle.laws.specs.Equal.{eq_list};
+ghost use Rattle.paper.specs.Numbers.{code_of};
 ghost use Rattle.language.specs.Lines.{kind_named, values_from, candidate, says};
 
 use layout::FIELDS;
-use paper::Entry;
+use paper::{Entry, Kind};
 
 // Room for the text of every entry: a name, and fifteen numbers of at most 21 bytes with a space before each.
 const LONGEST: usize = 338;
@@ -28,14 +29,16 @@ fn letter_at(s: &[u8], i: usize) -> u8
 }
 
 // The kind whose name begins with these two letters.
-fn kind_named(x: u8, y: u8) -> u8
-    ensures { result ≡ kind_named x y }
+#[tactic(auto, unfolding(crate::specs::Lines::kind_named))]
+fn kind_named(x: u8, y: u8) -> Kind
+    ensures { code_of result ≡ kind_named x y }
 {
-    match x {
-        b'w' => 1,
-        b's' => if y == b'h' { 2 } else { 5 },
-        b'c' => 3,
-        _ => 4,
+    match (x, y) {
+        (b'w', _) => Kind::Weighing,
+        (b's', b'h') => Kind::Sheet,
+        (b's', _) => Kind::Seat,
+        (b'c', _) => Kind::Change,
+        _ => Kind::Paired,
     }
 }
 

@@ -2,11 +2,10 @@
 use Rattle.std.specs.Prelude.{List, [], ◌++◌, ℕ, ◌-◌, length, replicate}
 use Rattle.std.proofs.Math.Option.{Option, none, some}
 use Rattle.paper.specs.declared.Entry.{Entry}
-use Rattle.paper.specs.File.{Field, kind_of, values_of, entry_of}
+use Rattle.paper.specs.File.{Field, values_of, entry_of}
 use Rattle.format.specs.Fields.{widths, total, values_by, words_by}
 use Rattle.format.specs.Rows.{fields_of, fields_at}
 use Rattle.layout.specs.declared.Layout.{Layout}
-use Rattle.layout.specs.declared.Fields.{Fields}
 
 -- numbers in the first of fifteen places, 0 in the others
 abbrev pub padded : List ℕ → List ℕ
@@ -17,12 +16,9 @@ abbrev pub row_of : Option (List Field) → Layout
 row_of none = record { count = 0; length = 0; widths = padded [] }
 row_of (some fs) = record { count = length fs; length = total (widths fs); widths = padded (widths fs) }
 
--- an entry's kind, and the words of its fields
+-- the words of an entry's fields
 unfoldable pub words_of : Entry → List ℕ
 words_of e = words_by (fields_of e) (values_of e)
-
-abbrev pub fields_in : Entry → Fields
-fields_in e = record { kind = kind_of e; words = padded (words_of e) }
 
 -- the entry of a kind whose fields hold these words
 unfoldable pub entry_with : ℕ → List ℕ → Entry

@@ -3,16 +3,17 @@
 // How an entry lies in the file: the widths of its fields, a row for each kind, and its values as the words that they hold.
 ghost use Rattle.std.specs.Prelude.{◌≡◌};
 ghost use Rattle.paper.specs.declared.Entry.TheVariants as entry;
-ghost use Rattle.paper.specs.File.{layout_of, kind_of};
-ghost use Rattle.layout.specs.Table.{padded, row_of, words_of, fields_in};
+ghost use Rattle.paper.specs.Numbers.{code_of};
+ghost use Rattle.paper.specs.File.{layout_of};
+ghost use Rattle.layout.specs.Table.{padded, row_of, words_of};
 
-use paper::{Change, Entry, Paired, Seat, Sheet, Weighing};
+use paper::{Change, Entry, Kind, Paired, Seat, Sheet, Weighing};
 use words::word_of;
 
 // The most fields that a kind has.
 pub const FIELDS: usize = 15;
 
-// A row of the table: how many fields, how many bytes they take, and the width of each. No field: no such kind.
+// A row of the table: how many fields, how many bytes they take, and the width of each.
 #[derive(Clone, Copy)]
 pub struct Layout {
     pub count: usize,
@@ -20,52 +21,40 @@ pub struct Layout {
     pub widths: [usize; FIELDS],
 }
 
-// An entry's kind, and the words of its fields.
-#[derive(Clone, Copy)]
-pub struct Fields {
-    pub kind: u8,
-    pub words: [u64; FIELDS],
-}
-
 // The table.
-pub fn layout_of(kind: u8) -> Layout
-    ensures { result ≡ row_of (layout_of kind) }
+pub fn layout_of(kind: Kind) -> Layout
+    ensures { result ≡ row_of (layout_of (code_of kind)) }
 {
     match kind {
         // m; p, q, a, b, n
-        1 => Layout {
+        Kind::Weighing => Layout {
             count: 6,
             length: 21,
             widths: [1, 4, 4, 4, 4, 4, 0, 0, 0, 0, 0, 0, 0, 0, 0],
         },
         // FWD, AFT, DRY, WET, NLP; front arm, least, greatest, step; rear and water arm, greatest, step
-        2 => Layout {
+        Kind::Sheet => Layout {
             count: 15,
             length: 60,
             widths: [4, 4, 4, 4, 4, 4, 4, 4, 4, 4, 4, 4, 4, 4, 4],
         },
         // c, arm; flag
-        3 => Layout {
+        Kind::Change => Layout {
             count: 3,
             length: 9,
             widths: [4, 4, 1, 0, 0, 0, 0, 0, 0, 0, 0, 0, 0, 0, 0],
         },
         // m; p, q, p', q', a, b, n
-        4 => Layout {
+        Kind::Paired => Layout {
             count: 8,
             length: 29,
             widths: [1, 4, 4, 4, 4, 4, 4, 4, 0, 0, 0, 0, 0, 0, 0],
         },
         // lower arm, higher arm
-        5 => Layout {
+        Kind::Seat => Layout {
             count: 2,
             length: 8,
             widths: [4, 4, 0, 0, 0, 0, 0, 0, 0, 0, 0, 0, 0, 0, 0],
-        },
-        _ => Layout {
-            count: 0,
-            length: 0,
-            widths: [0, 0, 0, 0, 0, 0, 0, 0, 0, 0, 0, 0, 0, 0, 0],
         },
     }
 }
@@ -117,21 +106,8 @@ fn seat_words(f: Seat) -> [u64; FIELDS]
     [lower, higher, 0, 0, 0, 0, 0, 0, 0, 0, 0, 0, 0, 0, 0]
 }
 
-// The kind of an entry.
-pub fn kind_of(e: Entry) -> u8
-    ensures { result ≡ kind_of e }
-{
-    match e {
-        Entry::Weighing(_) => 1,
-        Entry::Sheet(_) => 2,
-        Entry::Change(_) => 3,
-        Entry::Paired(_) => 4,
-        Entry::Seat(_) => 5,
-    }
-}
-
-// The words of its fields.
-fn words_in(e: Entry) -> [u64; FIELDS]
+// The words of an entry's fields.
+pub fn words_of(e: Entry) -> [u64; FIELDS]
     ensures { result ≡ padded (words_of e) }
 {
     match e {
@@ -140,15 +116,5 @@ fn words_in(e: Entry) -> [u64; FIELDS]
         Entry::Change(x) => change_words(x),
         Entry::Paired(x) => paired_words(x),
         Entry::Seat(f) => seat_words(f),
-    }
-}
-
-// An entry as the file has it.
-pub fn fields_of(e: Entry) -> Fields
-    ensures { result ≡ fields_in e }
-{
-    Fields {
-        kind: kind_of(e),
-        words: words_in(e),
     }
 }

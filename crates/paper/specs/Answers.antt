@@ -1,12 +1,13 @@
 -- What the calls that change no record answer, refusals included, and what they leave of a buffer as lent.
-use Rattle.std.specs.Prelude.{cond, List, ◌++◌, ℕ, eqb, pos, nat_abs, length, drop}
+use Rattle.std.specs.Prelude.{cond, List, ◌++◌, ℕ, eqb, nat_abs, length, drop, Result, Ok, Err}
 use Rattle.std.proofs.Math.Option.{Option, none, some}
 use Rattle.paper.specs.declared.Sheet.{Sheet}
 use Rattle.paper.specs.declared.Seat.{Seat}
 use Rattle.paper.specs.declared.Entry.{Entry}
 use Rattle.paper.specs.declared.CentreOfGravity.{CentreOfGravity}
 use Rattle.paper.specs.declared.Placard.{Placard}
-use Rattle.paper.specs.declared.Written.{Written}
+use Rattle.paper.specs.declared.Refusal.{Refusal}
+use Rattle.paper.specs.Numbers.{refusal_of}
 use Rattle.paper.specs.Record.{Balance, balance_of, sheet_of, seat_of, ends_of, centre_of}
 use Rattle.paper.specs.Rows.{row_count}
 use Rattle.paper.specs.Placard.{text, text_length, blank_count}
@@ -21,46 +22,39 @@ over xs buffer = xs ++ drop (length xs) buffer
 
 -- total and moment, in half grams, and empty centre of gravity (G is 2 or more in every accepted list, so its size is G)
 unfoldable pub centre_given : Balance → CentreOfGravity
-centre_given b = record { number = 0; total = nat_abs b.total; moment = b.moment; centre = centre_of b }
+centre_given b = record { total = nat_abs b.total; moment = b.moment; centre = centre_of b }
 
-unfoldable pub centre_refused : ℕ → CentreOfGravity
-centre_refused n = record { number = n; total = 0; moment = pos 0; centre = pos 0 }
+abbrev pub centre_by : ℕ → Option Balance → Result CentreOfGravity Refusal
+centre_by n none = Err (refusal_of n)
+centre_by n (some b) = Ok (centre_given b)
 
-abbrev pub centre_by : ℕ → Option Balance → CentreOfGravity
-centre_by n none = centre_refused n
-centre_by n (some b) = centre_given b
-
-unfoldable pub centre_answer : List Entry → CentreOfGravity
+unfoldable pub centre_answer : List Entry → Result CentreOfGravity Refusal
 centre_answer es = centre_by (centre_number es) (balance_of es)
 
 -- ---- placard
 
-unfoldable pub placard_given : Sheet → Seat → Balance → List ℕ → Placard × List ℕ
-placard_given s f b buffer = (
-  record { number = 0; bytes = text_length s; rows = row_count s; blank = blank_count s f b },
-  over (text s f b) buffer,
-)
+unfoldable pub placard_given : Sheet → Seat → Balance → Placard
+placard_given s f b = record { bytes = text_length s; rows = row_count s; blank = blank_count s f b }
 
-unfoldable pub placard_refused : ℕ → List ℕ → Placard × List ℕ
-placard_refused n buffer = (record { number = n; bytes = 0; rows = 0; blank = 0 }, buffer)
+unfoldable pub placard_refused : ℕ → List ℕ → Result Placard Refusal × List ℕ
+placard_refused n buffer = (Err (refusal_of n), buffer)
 
-abbrev pub placard_by : ℕ → Option Sheet → Option Seat → Option Balance → List ℕ → Placard × List ℕ
+abbrev pub placard_by : ℕ → Option Sheet → Option Seat → Option Balance → List ℕ → Result Placard Refusal × List ℕ
 placard_by n none f o buffer = placard_refused n buffer
 placard_by n (some s) f none buffer = placard_refused n buffer
 placard_by n (some s) f (some b) buffer =
-    cond (eqb n 0) (placard_given s (ends_of s f) b buffer) (placard_refused n buffer)
+    cond (eqb n 0) (Ok (placard_given s (ends_of s f) b), over (text s (ends_of s f) b) buffer) (placard_refused n buffer)
 
 -- the answer, and the buffer as the call leaves it
-unfoldable pub placard_answer : List Entry → List ℕ → Placard × List ℕ
+unfoldable pub placard_answer : List Entry → List ℕ → Result Placard Refusal × List ℕ
 placard_answer es buffer = placard_by (placard_number es (length buffer)) (sheet_of es) (seat_of es) (balance_of es) buffer
 
 -- ---- writing
 
-unfoldable pub written_by : ℕ → List ℕ → List ℕ → Written × List ℕ
-written_by n xs buffer =
-    cond (eqb n 0) (record { number = 0; length = length xs }, over xs buffer)
-    (record { number = n; length = 0 }, buffer)
+-- how many bytes were written
+unfoldable pub written_by : ℕ → List ℕ → List ℕ → Result ℕ Refusal × List ℕ
+written_by n xs buffer = cond (eqb n 0) (Ok (length xs), over xs buffer) (Err (refusal_of n), buffer)
 
 -- the answer, and the buffer as the call leaves it
-unfoldable pub written_answer : List Entry → List ℕ → Written × List ℕ
+unfoldable pub written_answer : List Entry → List ℕ → Result ℕ Refusal × List ℕ
 written_answer es buffer = written_by (writing_number es (length buffer)) (file_bytes es) buffer

@@ -1,5 +1,5 @@
 -- The numbers that kinds of entry and refusals have, and the number that an answer stands for.
-use Rattle.std.specs.Prelude.{◌≡◌, ℕ, Result, Ok, Err, MatchResult}
+use Rattle.std.specs.Prelude.{◌≡◌, cond, ℕ, eqb, Result, Ok, Err, MatchResult}
 use Rattle.paper.specs.declared.Kind.{Kind}
 use Rattle.paper.specs.declared.Kind.TheVariants as kind
 use Rattle.paper.specs.declared.UnknownKind.{UnknownKind}
@@ -37,3 +37,21 @@ number_of refusal.NoFile = 12
 abbrev pub number_in : {A : Type 0} → Result A Refusal → ℕ
 number_in (Ok x) = 0
 number_in (Err r) = number_of r
+
+-- the refusal that has a number
+unfoldable pub refusal_of : ℕ → Refusal
+refusal_of n =
+    cond (eqb n 1) refusal.Reading
+    (cond (eqb n 2) refusal.Distance
+    (cond (eqb n 3) refusal.NonLifting
+    (cond (eqb n 4) refusal.Range
+    (cond (eqb n 5) refusal.Rows
+    (cond (eqb n 6) refusal.Change
+    (cond (eqb n 7) refusal.NoWeighing
+    (cond (eqb n 8) refusal.NoSheet
+    (cond (eqb n 9) refusal.Full
+    (cond (eqb n 10) refusal.Empty (cond (eqb n 11) refusal.ShortBuffer refusal.NoFile))))))))))
+
+-- what a call answers by its number: a refusal where it is not 0
+abbrev pub answer_of : {A : Type 0} → ℕ → A → Result A Refusal
+answer_of n x = cond (eqb n 0) (Ok x) (Err (refusal_of n))

@@ -249,27 +249,18 @@ pub enum Row {
     Blank,
 }
 
-// What the centre-of-gravity call answers, total and moment in half grams; behind a refusal all but the number is 0.
+// What the centre-of-gravity call answers, total and moment in half grams.
 #[derive(Clone, Copy)]
 pub struct CentreOfGravity {
-    pub number: u64,
     pub total: u64,
     pub moment: i64,
     pub centre: i64,
 }
 
-// What the placard call answers beside the buffer; behind a refusal all but the number is 0.
+// What the placard call answers beside the buffer.
 #[derive(Clone, Copy)]
 pub struct Placard {
-    pub number: u64,
     pub bytes: usize,
     pub rows: usize,
     pub blank: usize,
-}
-
-// What writing answers beside the buffer; behind a refusal the length is 0.
-#[derive(Clone, Copy)]
-pub struct Written {
-    pub number: u64,
-    pub length: usize,
 }

@@ -5,7 +5,7 @@
 ghost use Rattle.std.specs.Prelude.{◌≡◌};
 ghost use Rattle.entries.specs.Walking.{walk_at};
 
-use entries::Walk;
+use paper::Entry;
 
 // The bytes of a file, and the place where the reader stands.
 #[derive(Clone, Copy)]
@@ -30,7 +30,7 @@ impl<'a> Reader<'a> {
     }
 
     // The entry where it stands.
-    pub fn next(self) -> Walk
+    pub fn next(self) -> Option<(Entry, usize)>
         ensures { result ≡ walk_at self.entry.src.now self.entry.at }
     {
         entries::next_entry(self.src, self.at)
@@ -38,7 +38,7 @@ impl<'a> Reader<'a> {
 }
 
 // The entry at a place of some bytes.
-pub fn entry_at(s: &[u8], at: usize) -> Walk
+pub fn entry_at(s: &[u8], at: usize) -> Option<(Entry, usize)>
     ensures { result ≡ walk_at s.now at }
 {
     Reader::new(s).moved(at).next()

@@ -10,15 +10,19 @@ use native.Mathlib.Omega.{arith}
 use lib.Dec.{eqb}
 use lib.ListN.{length}
 use borrow.Author.Tests.{eqb-true}
+use Rattle.std.specs.Prelude.{Result, Ok, Err}
+use Rattle.paper.specs.declared.Refusal.{Refusal}
 use Rattle.paper.specs.declared.Entry.{Entry}
 use Rattle.paper.specs.declared.Entry.TheVariants as entry
+use Rattle.paper.specs.Numbers.{refusal_of, number_in}
+use Rattle.paper.proofs.Numbers.{call_told}
 use Rattle.paper.specs.Refusals.{entry_number, accepted_after, accepted, only_accepted, file_of}
 use Rattle.paper.specs.File.{laid_out}
 use Rattle.paper.proofs.Lists.{last_apart}
 use Rattle.paper.specs.Journal.{Call, weigh, pair, install, change, seat, undo, read, call_number, accepted_call, after_by, after_call, without_last, entries_or}
 use Rattle.record.specs.declared.Record.{Record}
-use Rattle.record.specs.declared.Kept.{Kept}
 use Rattle.record.specs.Held.{record_of, held_by, kept_or, answered}
+use Rattle.record.proofs.Calls.{Answer}
 use Rattle.judge.proofs.Accepted.{accepted-more, accepted_before}
 use Rattle.record.proofs.Lists.{held_record}
 use Rattle.record.proofs.Replays.{held_accepted}
@@ -58,26 +62,27 @@ call_accepted es (read xs) h n = only_accepted_lem (laid_out xs) es h
 -- ---- the list and the number
 
 -- by whether the number is 0
-list_by : (t : Bool) (n : ℕ) (r : Record) (es : List Entry) → eqb n 0 ≡ t → (n ≡ 0 → accepted es ≡ true) → held_by (cond {A = Kept} t (record { number = 0; log = record_of es }) (record { number = n; log = r })).log ≡ cond t es (held_by r)
+list_by : (t : Bool) (n : ℕ) (r : Record) (es : List Entry) → eqb n 0 ≡ t → (n ≡ 0 → accepted es ≡ true) → held_by (cond {A = Answer} t (Ok tt, record_of es) (Err (refusal_of n), r)).1 ≡ cond t es (held_by r)
 list_by true n r es e h = held_record es (h (eqb-true n 0 e))
 list_by false n r es e h = refl
 
-number_by : (t : Bool) (n : ℕ) (r : Record) (es : List Entry) → eqb n 0 ≡ t → (cond {A = Kept} t (record { number = 0; log = record_of es }) (record { number = n; log = r })).number ≡ n
-number_by true n r es e = sym (eqb-true n 0 e)
-number_by false n r es e = refl
-
--- the record that a call answers holds the list after the call
-pub answered_list : (r : Record) (x : Call) → held_by (answered r x).log ≡ after_call (held_by r) x
+-- the record that a call leaves holds the list after the call
+pub answered_list : (r : Record) (x : Call) → held_by (answered r x).1 ≡ after_call (held_by r) x
 unfolding answered kept_or after_by
 answered_list r x =
     let es = held_by r in
     list_by (eqb (call_number es x) 0) (call_number es x) r (accepted_call es x) refl (λ n. call_accepted es x (held_accepted r) n)
 
+number_by : (t : Bool) (n : ℕ) (r s : Record) → number_in (cond {A = Answer} t (Ok tt, s) (Err (refusal_of n), r)).0 ≡ number_in (cond {A = Result (Unit {0}) Refusal} t (Ok tt) (Err (refusal_of n)))
+number_by true n r s = refl
+number_by false n r s = refl
+
 -- and its number is the list's
-pub answered_number : (r : Record) (x : Call) → (answered r x).number ≡ call_number (held_by r) x
+pub answered_number : (r : Record) (x : Call) → number_in (answered r x).0 ≡ call_number (held_by r) x
 unfolding answered kept_or
 answered_number r x =
-    let es = held_by r in number_by (eqb (call_number es x) 0) (call_number es x) r (accepted_call es x) refl
+    let es = held_by r in
+    number_by (eqb (call_number es x) 0) (call_number es x) r (record_of (accepted_call es x)) ∙ call_told es x
 
 -- a fresh record holds nothing
 pub fresh_list : held_by (record_of []) ≡ []
@@ -93,11 +98,11 @@ Made r = r ≡ record_of (held_by r)
 pub made_fresh : Made (record_of [])
 made_fresh = ap record_of (sym fresh_list)
 
-made_by : (t : Bool) (n : ℕ) (r : Record) (es : List Entry) → eqb n 0 ≡ t → (n ≡ 0 → accepted es ≡ true) → Made r → Made (cond {A = Kept} t (record { number = 0; log = record_of es }) (record { number = n; log = r })).log
+made_by : (t : Bool) (n : ℕ) (r : Record) (es : List Entry) → eqb n 0 ≡ t → (n ≡ 0 → accepted es ≡ true) → Made r → Made (cond {A = Answer} t (Ok tt, record_of es) (Err (refusal_of n), r)).1
 made_by true n r es e h m = ap record_of (sym (held_record es (h (eqb-true n 0 e))))
 made_by false n r es e h m = m
 
-pub made_answered : (r : Record) (x : Call) → Made r → Made (answered r x).log
+pub made_answered : (r : Record) (x : Call) → Made r → Made (answered r x).1
 unfolding answered kept_or
 made_answered r x m =
     let es = held_by r in

@@ -1,18 +1,18 @@
 -- Records and lists: a record of a list holds that list, and one slot is set for one entry more or less. Assumes nothing.
 use mathlib.Core.Path.{◌≡◌, refl, sym, ◌∙◌, ap}
 use mathlib.Core.Bool.{true}
-use mathlib.Core.List.{List, [], ◌∷◌, ◌++◌, map, append_assoc}
+use mathlib.Core.List.{List, [], ◌∷◌, ◌++◌, append_assoc}
 use Prim.Native.Nat.{ℕ, suc, ◌+◌, ◌-◌, ◌≤◌, ◌<◌}
 use native.Mathlib.Omega.{arith}
-use lib.ListN.{length, set, replicate, length-map}
+use lib.ListN.{length, set, replicate}
 use lib.Seq.{set_at, take_at}
-use Rattle.laws.specs.Lists.{map-append, map_back, length_more}
+use Rattle.laws.specs.Lists.{length_more}
 use Rattle.paper.specs.declared.Entry.{Entry}
 use Rattle.paper.specs.Refusals.{accepted}
 use Rattle.paper.specs.Journal.{without_last}
 use Rattle.paper.proofs.Lists.{last_apart}
 use Rattle.record.specs.declared.Record.{Record}
-use Rattle.record.specs.Held.{slot_of, entry_in, unused_slot, record_of, slotted, held_by, put}
+use Rattle.record.specs.Held.{unused_slot, record_of, slotted, held_by, put}
 use Rattle.record.proofs.Turns.{replayed-accepted}
 
 -- the unused slots behind n used ones, the first apart
@@ -24,10 +24,10 @@ pub put_is : (es : List Entry) (e : Entry) → length es < 64 → put (record_of
 unfolding record_of
 put_is es e h =
     let n = length es in
-    let slots : set (map slot_of es ++ replicate (64 - n) unused_slot) n (slot_of e) ≡ map slot_of (es ++ e ∷ []) ++ replicate (64 - length (es ++ e ∷ [])) unused_slot =
-    ap (λ l. set (map slot_of es ++ l) n (slot_of e)) (unused_more n h)
-    ∙ set_at (map slot_of es) unused_slot (replicate (64 - (n + 1)) unused_slot) (slot_of e) n (length-map es slot_of)
-    ∙ rw (map-append slot_of es (e ∷ []), append_assoc (map slot_of es) (slot_of e ∷ []) _, length_more es e) in
+    let slots : set (es ++ replicate (64 - n) unused_slot) n e ≡ (es ++ e ∷ []) ++ replicate (64 - length (es ++ e ∷ [])) unused_slot =
+    ap (λ l. set (es ++ l) n e) (unused_more n h)
+    ∙ set_at es unused_slot (replicate (64 - (n + 1)) unused_slot) e n refl
+    ∙ rw (append_assoc es (e ∷ []) _, length_more es e) in
     let count = sym (length_more es e) in
     λ i. record { slots = slots i; count = count i }
 
@@ -40,9 +40,9 @@ unfolding record_of
 cleared_one es e h =
     let n = length es in
     let count : length (es ++ e ∷ []) - 1 ≡ n = omega (arith, length_more es e) in
-    let slots : set (map slot_of (es ++ e ∷ []) ++ replicate (64 - length (es ++ e ∷ [])) unused_slot) (length (es ++ e ∷ []) - 1) unused_slot ≡ map slot_of es ++ replicate (64 - n) unused_slot =
-    rw (count, map-append slot_of es (e ∷ []), append_assoc (map slot_of es) (slot_of e ∷ []) (replicate (64 - length (es ++ e ∷ [])) unused_slot), length_more es e, unused_more n h)
-    (set_at (map slot_of es) (slot_of e) (replicate (64 - (n + 1)) unused_slot) unused_slot n (length-map es slot_of)) in
+    let slots : set ((es ++ e ∷ []) ++ replicate (64 - length (es ++ e ∷ [])) unused_slot) (length (es ++ e ∷ []) - 1) unused_slot ≡ es ++ replicate (64 - n) unused_slot =
+    rw (count, append_assoc es (e ∷ []) (replicate (64 - length (es ++ e ∷ [])) unused_slot), length_more es e, unused_more n h)
+    (set_at es e (replicate (64 - (n + 1)) unused_slot) unused_slot n refl) in
     λ i. record { slots = slots i; count = count i }
 
 pub cleared_is : (es : List Entry) → 0 < length es → length es ≤ 64 → cleared (record_of es) ≡ record_of (without_last es)
@@ -55,8 +55,7 @@ cleared_is es h k =
 pub slotted_record : (es : List Entry) → slotted (record_of es) ≡ es
 unfolding slotted record_of
 slotted_record es =
-    ap (map entry_in) (take_at (map slot_of es) (replicate (64 - length es) unused_slot) (length es) (length-map es slot_of))
-    ∙ map_back slot_of entry_in (λ e. refl) es
+    take_at es (replicate (64 - length es) unused_slot) (length es) refl
 
 pub held_record : (es : List Entry) → accepted es ≡ true → held_by (record_of es) ≡ es
 unfolding held_by accepted

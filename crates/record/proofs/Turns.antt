@@ -10,7 +10,8 @@ use Rattle.laws.specs.Tests.{left, right}
 use Rattle.paper.specs.declared.Entry.{Entry}
 use Rattle.paper.specs.Refusals.{entry_number, accepted_after, accepted}
 use Rattle.judge.proofs.Accepted.{accepted-more}
-use Rattle.record.specs.Held.{kept_behind, replayed}
+use Rattle.judge.specs.Standing.{kept_behind}
+use Rattle.record.specs.Held.{replayed}
 
 -- ---- one entry
 

@@ -4,6 +4,7 @@ use mathlib.Core.Path.{◌≡◌, refl, sym, ap, ◌∙◌}
 use mathlib.Core.Bool.{Bool, true, false, cond, ◌&&◌, and_assoc, and-false}
 use mathlib.Core.List.{List, [], ◌∷◌, ◌++◌, append_assoc, append-nil}
 use mathlib.Core.Option.{Option, none, some, map, bind}
+use Rattle.std.specs.Prelude.{Option as Found, Some, None}
 use Prim.Native.Nat.{ℕ, suc, ◌+◌, ◌-◌, ◌≤◌, ◌<◌}
 use native.Mathlib.Omega.{arith}
 use lib.Dec.{leb, eqb}
@@ -18,39 +19,37 @@ use Rattle.paper.specs.Refusals.{entry_number, accepted_after, accepted, only_ac
 use Rattle.format.specs.Numbers.{bytes_drop}
 use Rattle.format.specs.Entries.{entry_written}
 use Rattle.judge.proofs.Accepted.{accepted-append, accepted-more, accepted_before}
-use Rattle.entries.specs.declared.Walk.{Walk}
-use Rattle.entries.specs.declared.Walk.TheVariants.{Got, Nothing}
 use Rattle.entries.specs.Walking.{walk_of, walk_at}
 use Rattle.stored.specs.Kinds.{entries_to, up_to, walk_to}
 
 -- ---- what an answer of the cursor says
 
-abbrev entry_got : Entry → Walk → Entry
-entry_got d (Got e place) = e
-entry_got d Nothing = d
+abbrev entry_got : Entry → Found (Entry × ℕ) → Entry
+entry_got d (Some p) = p.0
+entry_got d None = d
 
-abbrev place_got : Walk → ℕ
-place_got (Got e place) = place
-place_got Nothing = 0
+abbrev place_got : Found (Entry × ℕ) → ℕ
+place_got (Some p) = p.1
+place_got None = 0
 
 -- one that was found is of a kind up to k
-got_to : (k : ℕ) (x : Walk) (e : Entry) (place : ℕ) → up_to k x ≡ Got e place → (x ≡ Got e place) × (leb (kind_of e) k ≡ true)
-got_to k Nothing e place h = (cc, cc)
-got_to k (Got f p) e place h = got_by (leb (kind_of f) k) refl h
+got_to : (k : ℕ) (x : Found (Entry × ℕ)) (e : Entry) (place : ℕ) → up_to k x ≡ Some (e, place) → (x ≡ Some (e, place)) × (leb (kind_of e) k ≡ true)
+got_to k None e place h = (cc, cc)
+got_to k (Some q) e place h = got_by (leb (kind_of q.0) k) refl h
   where
-    got_by : (t : Bool) → leb (kind_of f) k ≡ t → cond t (Got f p) Nothing ≡ Got e place → (Got f p ≡ Got e place) × (leb (kind_of e) k ≡ true)
-    got_by true l g = (g, ap (λ (x : Entry). leb (kind_of x) k) (sym (ap (entry_got f) g)) ∙ l)
+    got_by : (t : Bool) → leb (kind_of q.0) k ≡ t → cond t (Some q) None ≡ Some (e, place) → (Some q ≡ Some (e, place)) × (leb (kind_of e) k ≡ true)
+    got_by true l g = (g, ap (λ (x : Entry). leb (kind_of x) k) (sym (ap (entry_got q.0) g)) ∙ l)
     got_by false l g = (cc, cc)
 
-not_got : (t : Bool) (e : Entry) (place : ℕ) → cond t (Got e place) Nothing ≡ Nothing → t ≡ false
+not_got : (t : Bool) (e : Entry) (place : ℕ) → cond {A = Found (Entry × ℕ)} t (Some (e, place)) None ≡ None → t ≡ false
 not_got true e place h = cc
 not_got false e place h = refl
 
-none_walked : (n : ℕ) (o : Option (Entry × List ℕ)) → walk_of n o ≡ Nothing → o ≡ none
+none_walked : (n : ℕ) (o : Option (Entry × List ℕ)) → walk_of n o ≡ None → o ≡ none
 none_walked n none e = refl
 none_walked n (some p) e = cc
 
-some_walked : (n : ℕ) (o : Option (Entry × List ℕ)) (e : Entry) (place : ℕ) → walk_of n o ≡ Got e place → (ys : List ℕ) × (o ≡ some (e, ys)) × (n - length ys ≡ place)
+some_walked : (n : ℕ) (o : Option (Entry × List ℕ)) (e : Entry) (place : ℕ) → walk_of n o ≡ Some (e, place) → (ys : List ℕ) × (o ≡ some (e, ys)) × (n - length ys ≡ place)
 some_walked n none e place h = ([], cc, cc)
 some_walked n (some p) e place h = (p.1, ap (λ (x : Entry). some (x, p.1)) (ap (entry_got e) h), ap place_got h)
 
@@ -59,7 +58,7 @@ unfolding entry_bytes
 has_kind e = omega arith
 
 module _ (s : List ℕ) (at : ℕ) where
-  nothing_here : walk_at s at ≡ Nothing → take_entry (drop at s) ≡ none
+  nothing_here : walk_at s at ≡ None → take_entry (drop at s) ≡ none
   unfolding walk_at
   nothing_here e = none_walked (length s) (take_entry (drop at s)) e
 
@@ -72,23 +71,23 @@ module _ (s : List ℕ) (at : ℕ) where
 
   -- of a kind up to k: none, one of a later kind, and one that is kept
   module _ (k : ℕ) where
-    pub none_to : walk_at s at ≡ Nothing → Nothing ≡ walk_to k s at
+    pub none_to : walk_at s at ≡ None → None ≡ walk_to k s at
     unfolding walk_to
     none_to w = rw w
 
-    pub later_to : (e : Entry) (place : ℕ) → walk_at s at ≡ Got e place → k < kind_of e → Nothing ≡ walk_to k s at
+    pub later_to : (e : Entry) (place : ℕ) → walk_at s at ≡ Some (e, place) → k < kind_of e → None ≡ walk_to k s at
     unfolding walk_to
     later_to e place w h = rw (w, lt-leb (kind_of e) k h)
 
-    pub kept_to : (e : Entry) (place : ℕ) → walk_at s at ≡ Got e place → kind_of e ≤ k → Got e place ≡ walk_to k s at
+    pub kept_to : (e : Entry) (place : ℕ) → walk_at s at ≡ Some (e, place) → kind_of e ≤ k → Some (e, place) ≡ walk_to k s at
     unfolding walk_to
     kept_to e place w h = rw (w, le-leb (kind_of e) k h)
 
-  walked_to : (k : ℕ) (e : Entry) (place : ℕ) → walk_to k s at ≡ Got e place → (walk_at s at ≡ Got e place) × (leb (kind_of e) k ≡ true)
+  walked_to : (k : ℕ) (e : Entry) (place : ℕ) → walk_to k s at ≡ Some (e, place) → (walk_at s at ≡ Some (e, place)) × (leb (kind_of e) k ≡ true)
   unfolding walk_to
   walked_to k e place h = got_to k (walk_at s at) e place h
 
-  module _ (b : are_bytes s ≡ true) (e : Entry) (place : ℕ) (h : walk_at s at ≡ Got e place) where
+  module _ (b : are_bytes s ≡ true) (e : Entry) (place : ℕ) (h : walk_at s at ≡ Some (e, place)) where
     entry_here : take_entry (drop at s) ≡ some (e, drop place s)
     unfolding walk_at
     entry_here =
@@ -105,7 +104,7 @@ module _ (s : List ℕ) (at : ℕ) where
         omega (arith, w.2, length-drop at s, ap length whole, length-append (entry_bytes e) w.0, has_kind e)
 
   -- the place is the entry's bytes further on
-  pub place_here : (k : ℕ) → are_bytes s ≡ true → (e : Entry) (place : ℕ) → walk_to k s at ≡ Got e place → place ≡ at + length (entry_bytes e)
+  pub place_here : (k : ℕ) → are_bytes s ≡ true → (e : Entry) (place : ℕ) → walk_to k s at ≡ Some (e, place) → place ≡ at + length (entry_bytes e)
   place_here k b e place h = place_at b e place (walked_to k e place h).0
 
 -- ---- the entries read so far, and those to come
@@ -176,22 +175,22 @@ module _ (s : List ℕ) (k count i at : ℕ) (es : List Entry) (p : Passed s k c
   next h = let e : count - i ≡ suc (count - (i + 1)) = omega arith in rw e
 
   module _ (b : are_bytes s ≡ true) (h : i < count) where
-    one_read : (e : Entry) (place : ℕ) → walk_at s at ≡ Got e place → Rest s count (i + 1) place (es ++ e ∷ [])
+    one_read : (e : Entry) (place : ℕ) → walk_at s at ≡ Some (e, place) → Rest s count (i + 1) place (es ++ e ∷ [])
     unfolding bind
     one_read e place w =
         p.rest ∙ rw (next h, entry_here s at b e place w) (map_more es e (take_entries (count - (i + 1)) (drop place s)))
 
     -- there is none, or it is of a later kind
-    pub no_entry : walk_to k s at ≡ Nothing → entries_to k count (drop 6 s) ≡ none
+    pub no_entry : walk_to k s at ≡ None → entries_to k count (drop 6 s) ≡ none
     unfolding walk_to bind
     no_entry e = by_walk (walk_at s at) refl e
       where
-        by_walk : (x : Walk) → walk_at s at ≡ x → up_to k x ≡ Nothing → entries_to k count (drop 6 s) ≡ none
-        by_walk Nothing w u = rw (p.rest, next h, nothing_here s at w)
-        by_walk (Got f place) w u =
+        by_walk : (x : Found (Entry × ℕ)) → walk_at s at ≡ x → up_to k x ≡ None → entries_to k count (drop 6 s) ≡ none
+        by_walk None w u = rw (p.rest, next h, nothing_here s at w)
+        by_walk (Some (f, place)) w u =
             ap only_accepted (ap (only_kinds k) (one_read f place w) ∙ later_in k es f (take_entries (count - (i + 1)) (drop place s)) (not_got (leb (kind_of f) k) f place u))
 
-    module _ (e : Entry) (place : ℕ) (w : walk_to k s at ≡ Got e place) where
+    module _ (e : Entry) (place : ℕ) (w : walk_to k s at ≡ Some (e, place)) where
       pub refused_entry : 0 < entry_number es e → entries_to k count (drop 6 s) ≡ none
       refused_entry n =
           ap (λ (o : Option (List Entry)). only_accepted (only_kinds k o)) (one_read e place (walked_to s at k e place w).0)

@@ -3,6 +3,7 @@ use mathlib.Core.Path.{◌≡◌, refl, sym, ap, ◌∙◌}
 use mathlib.Core.Bool.{true}
 use mathlib.Core.List.{List, [], ◌∷◌, ◌++◌, map}
 use mathlib.Core.Option.{Option}
+use Rattle.std.specs.Prelude.{Some}
 use Prim.Native.Nat.{ℕ, ◌+◌, ◌<◌}
 use native.Mathlib.Omega.{arith}
 use lib.ListN.{length, length-append}
@@ -24,7 +25,6 @@ use Rattle.seat.proofs.Lists.{force_more}
 use Rattle.judge.specs.declared.Standing.{Standing}
 use Rattle.judge.specs.Standing.{Stands, stands_in, nothing, plainly, Sound, number_at, after}
 use Rattle.judge.proofs.Following.{stands-more, number_at_lem}
-use Rattle.entries.specs.declared.Walk.TheVariants.{Got}
 use Rattle.stored.specs.declared.Contents.{Contents}
 use Rattle.stored.specs.Kinds.{walk_to}
 use Rattle.stored.specs.Found.{bytes_in, ContentsOf}
@@ -56,7 +56,7 @@ module _ (es : List Entry) (c : Contents) (x : ContentsOf es c) where
 
 module _ (s : List ℕ) (k count : ℕ) (c : Contents) (w : WalkedTo s k count c) where
   -- one entry more, which gets no number
-  module _ (b : are_bytes s ≡ true) (h : c.count < count) (e : Entry) (place : ℕ) (g : walk_to k s c.end ≡ Got e place) (n : number_at c.count (plainly c.standing) e ≡ 0) where
+  module _ (b : are_bytes s ≡ true) (h : c.count < count) (e : Entry) (place : ℕ) (g : walk_to k s c.end ≡ Some (e, place)) (n : number_at c.count (plainly c.standing) e ≡ 0) where
     pub gone_on : (t : Standing) (f : InForce) → plainly t ≡ after (plainly c.standing) e → Sound (c.count + 1) t → found f ≡ later (found c.sheet) e → WalkedTo s k count (record { count = c.count + 1; standing = t; sheet = f; last = c.end; end = place })
     gone_on t f p q r =
         let es = w.entries in

@@ -2,14 +2,14 @@
 
 // A stored file: what stands in it, found by one walk over its entries. No record is made.
 ghost use Rattle.std.specs.Prelude.{◌≡◌, drop};
+ghost use Rattle.paper.specs.Numbers.{code_of};
 ghost use Rattle.paper.specs.Refusals.{file_of};
 ghost use Rattle.stored.specs.Kinds.{entries_to, walk_to};
 ghost use Rattle.stored.specs.Found.{Finds};
 
-use entries::Walk;
 use header::HEADER;
 use judge::{Judged, Standing, Weighed};
-use paper::{CAPACITY, Entry};
+use paper::{CAPACITY, Entry, Kind};
 use seat::InForce;
 
 // What stands in the file of a record: how many entries, their balance, what is in force, the place of the last entry (behind
@@ -31,22 +31,20 @@ pub enum Stored {
 }
 
 // The entry at a place, where it is of a kind up to `kinds`.
-pub fn entry_to(s: &[u8], at: usize, kinds: u8) -> Walk
-    ensures { result ≡ walk_to kinds s.now at }
+pub fn entry_to(s: &[u8], at: usize, kinds: Kind) -> Option<(Entry, usize)>
+    ensures { result ≡ walk_to (code_of kinds) s.now at }
 {
-    let Walk::Got(entry, place) = reader::entry_at(s, at) else {
-        return Walk::Nothing;
-    };
-    if kinds < layout::kind_of(entry) {
-        return Walk::Nothing;
+    let (entry, place) = reader::entry_at(s, at)?;
+    if kinds < entry.kind() {
+        return None;
     }
-    Walk::Got(entry, place)
+    Some((entry, place))
 }
 
 // What stands behind the header, judged entry by entry: just as many entries as the count says, none of a kind above `kinds`,
 // and no byte over.
-fn survey_entries(s: &[u8], kinds: u8, count: usize) -> Stored
-    ensures { Finds (entries_to kinds count (drop 6 s.now)) result }
+fn survey_entries(s: &[u8], kinds: Kind, count: usize) -> Stored
+    ensures { Finds (entries_to (code_of kinds) count (drop 6 s.now)) result }
 {
     let mut standing = Standing {
         weighed: Weighed::Never,
@@ -57,7 +55,7 @@ fn survey_entries(s: &[u8], kinds: u8, count: usize) -> Stored
     let mut at = HEADER;
     let mut i = 0;
     while i < count {
-        let Walk::Got(entry, place) = entry_to(s, at, kinds) else {
+        let Some((entry, place)) = entry_to(s, at, kinds) else {
             return Stored::Nothing;
         };
         let Judged::Accepted(next) = judge::judge(i, standing, entry) else {

@@ -1,13 +1,9 @@
 -- Each kind of entry by its words: all compute, once a list is taken by its elements. Assumes nothing.
-use mathlib.Core.Path.{◌≡◌, refl, sym, ap}
-use mathlib.Core.Bool.{Bool, true, false, cond}
+use mathlib.Core.Path.{◌≡◌, sym, ap}
 use mathlib.Core.List.{List}
-use mathlib.Core.Option.{none}
 use Prim.Native.Nat.{ℕ}
-use lib.Dec.{eqb}
 use lib.IntN.{ℤ}
 use lib.ListN.{length, get_or}
-use borrow.Author.Tests.{ne_eqb, eqb-true}
 use Rattle.laws.specs.Lists.{by_elements}
 use Rattle.paper.specs.declared.Station.{Station}
 use Rattle.paper.specs.declared.Weighing.{Weighing}
@@ -17,19 +13,8 @@ use Rattle.paper.specs.declared.Paired.{Paired}
 use Rattle.paper.specs.declared.Seat.{Seat}
 use Rattle.paper.specs.declared.Entry.TheVariants as entry
 use Rattle.paper.specs.File.{signed_word, field_value, layout_of, entry_of}
-use Rattle.paper.specs.Record.{is_none}
 use Rattle.format.specs.Fields.{values_by}
 use Rattle.layout.specs.Table.{entry_with}
-
--- the last kind of the table
-fifth : (t : Bool) (k : ℕ) → eqb k 5 ≡ t → is_none (cond t (layout_of 5) none) ≡ false → k ≡ 5
-unfolding is_none
-fifth true k e h = eqb-true k 5 e
-fifth false k e h = cc
-
-pub last_row : (k : ℕ) → is_none (layout_of k) ≡ false → (k ≡ 1 → ⊥) → (k ≡ 2 → ⊥) → (k ≡ 3 → ⊥) → (k ≡ 4 → ⊥) → k ≡ 5
-unfolding layout_of
-last_row k h a b c d = fifth (eqb k 5) k refl (rw (ne_eqb k 1 a, ne_eqb k 2 b, ne_eqb k 3 c, ne_eqb k 4 d) at h)
 
 -- ---- from words to an entry
 

@@ -1,14 +1,14 @@
 #![tactic(auto)]
 
 // An entry of its kind and the words of its fields.
-ghost use Rattle.std.specs.Prelude.{◌≡◌, false};
+ghost use Rattle.std.specs.Prelude.{◌≡◌};
 ghost use Rattle.paper.specs.declared.Entry.TheVariants as entry;
-ghost use Rattle.paper.specs.File.{signed_word, field_value, layout_of};
-ghost use Rattle.paper.specs.Record.{is_none};
+ghost use Rattle.paper.specs.Numbers.{code_of};
+ghost use Rattle.paper.specs.File.{signed_word, field_value};
 ghost use Rattle.layout.specs.Table.{entry_with};
 
 use layout::FIELDS;
-use paper::{Change, Entry, Paired, Seat, Sheet, Station, Weighing};
+use paper::{Change, Entry, Kind, Paired, Seat, Sheet, Station, Weighing};
 use words::signed;
 
 fn weighing_of(n: [u32; FIELDS]) -> Weighing
@@ -84,16 +84,15 @@ fn seat_of(n: [u32; FIELDS]) -> Seat
     }
 }
 
-// The entry of a kind of the table with these words.
-pub fn entry_of(kind: u8, n: [u32; FIELDS]) -> Entry
-    requires { is_none (layout_of kind) ≡ false }
-    ensures { result ≡ entry_with kind n }
+// The entry of a kind with these words.
+pub fn entry_of(kind: Kind, n: [u32; FIELDS]) -> Entry
+    ensures { result ≡ entry_with (code_of kind) n }
 {
     match kind {
-        1 => Entry::Weighing(weighing_of(n)),
-        2 => Entry::Sheet(sheet_of(n)),
-        3 => Entry::Change(change_of(n)),
-        4 => Entry::Paired(paired_of(n)),
-        _ => Entry::Seat(seat_of(n)),
+        Kind::Weighing => Entry::Weighing(weighing_of(n)),
+        Kind::Sheet => Entry::Sheet(sheet_of(n)),
+        Kind::Change => Entry::Change(change_of(n)),
+        Kind::Paired => Entry::Paired(paired_of(n)),
+        Kind::Seat => Entry::Seat(seat_of(n)),
     }
 }

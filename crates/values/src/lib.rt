@@ -3,11 +3,12 @@
 // An entry as its values in the order of the file, and back.
 ghost use Rattle.std.specs.Prelude.{◌≡◌};
 ghost use Rattle.paper.specs.declared.Entry.TheVariants as entry;
+ghost use Rattle.paper.specs.Numbers.{code_of};
 ghost use Rattle.paper.specs.File.{entry_of};
 ghost use Rattle.values.specs.Places.{Readable, values_in};
 
 use layout::FIELDS;
-use paper::{Change, Entry, Paired, Seat, Sheet, Weighing};
+use paper::{Change, Entry, Kind, Paired, Seat, Sheet, Weighing};
 
 // How many values an entry has, and they in the order of the file.
 #[derive(Clone, Copy)]
@@ -133,14 +134,14 @@ pub fn values_of(e: Entry) -> Values
 }
 
 // The entry of a kind with these values.
-pub fn entry_of(kind: u8, v: [i64; FIELDS]) -> Entry
-    ensures { result ≡ entry_of kind v }
+pub fn entry_of(kind: Kind, v: [i64; FIELDS]) -> Entry
+    ensures { result ≡ entry_of (code_of kind) v }
 {
     match kind {
-        1 => Entry::Weighing(kinds::weighing_of(v)),
-        2 => Entry::Sheet(kinds::sheet_of(v)),
-        3 => Entry::Change(kinds::change_of(v)),
-        4 => Entry::Paired(kinds::paired_of(v)),
-        _ => Entry::Seat(kinds::seat_of(v)),
+        Kind::Weighing => Entry::Weighing(kinds::weighing_of(v)),
+        Kind::Sheet => Entry::Sheet(kinds::sheet_of(v)),
+        Kind::Change => Entry::Change(kinds::change_of(v)),
+        Kind::Paired => Entry::Paired(kinds::paired_of(v)),
+        Kind::Seat => Entry::Seat(kinds::seat_of(v)),
     }
 }

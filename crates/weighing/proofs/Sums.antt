@@ -5,14 +5,14 @@ use native.Mathlib.Omega.{arith}
 use lib.IntN.{ℤ, pos, ◌+ℤ◌, ◌-ℤ◌}
 use Rattle.laws.specs.Tests.{or_self}
 use Rattle.laws.specs.Z.{zs, is_nat, is_int, is_add, is_sub}
-use Rattle.paper.specs.declared.Paired.{Paired}
-use Rattle.paper.specs.Record.{paired}
+use Rattle.paper.specs.declared.Weighing.{Weighing}
 use Rattle.paper.specs.Refusals.{bad_distance, either}
+use Rattle.weighing.specs.Readings.{both}
 use Rattle.reading.specs.declared.Reading.{Reading}
 
-pub same_distances : (x : Paired) → either bad_distance (paired x) ≡ bad_distance (paired x).first
-unfolding bad_distance
-same_distances x = or_self _
+-- of two readings with the same distances the first decides
+pub first_decides : (v w : Weighing) → bad_distance w ≡ bad_distance v → either bad_distance (both v w) ≡ bad_distance v
+first_decides v w e = rw e (or_self _)
 
 pub sides_added : (r s : Reading) {x y : ℤ} → pos r.aft -ℤ pos r.fore ≡ x → pos s.aft -ℤ pos s.fore ≡ y → pos (r.aft + s.aft) -ℤ pos (r.fore + s.fore) ≡ x +ℤ y
 sides_added r s {x} {y} e f =

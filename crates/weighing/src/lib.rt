@@ -1,80 +1,91 @@
 #![tactic(auto)]
 
-// What a weighing says, plain or paired: its number of refusal, and its balance, from one reading or two.
-ghost use Rattle.std.specs.Prelude.{◌≡◌};
+// What a weighing says, plain or paired: its balance, from one reading or two, or why it is refused.
+ghost use Rattle.std.specs.Prelude.{◌≡◌, refl, IfOk};
+ghost use Rattle.paper.specs.Numbers.{number_in};
 ghost use Rattle.paper.specs.Record as paper;
-ghost use Rattle.paper.specs.Refusals.{weighing_faults, first_number};
+ghost use Rattle.paper.specs.Refusals.{bad_distance, weighing_faults, first_number};
 ghost use Rattle.reading.specs.Readings.{Says, InGrams};
-ghost use Rattle.weighing.specs.Readings.{both};
+ghost use Rattle.weighing.specs.Readings.{both, paired_distances};
 ghost use Rattle.balance.specs.Balance.{plain, Bounded};
 
 use balance::Balance;
-use paper::{Paired, Weighing};
+use paper::{Paired, Refusal, Weighing};
 use reading::{Reading, bad_distance, bad_nonlifting, bad_reading, reckoned};
 
-// The first reading of a paired weighing, as a plain one.
-fn first_of(x: Paired) -> Weighing
-    ensures { result ≡ (paper.paired x).first }
-{
-    Weighing {
-        m: x.m,
-        p: x.p,
-        q: x.q,
-        a: x.a,
-        b: x.b,
-        n: x.n,
+// A weighing as two readings, each of them a plain weighing with the same distances.
+pub trait Readings: Copy {
+    ghost readings: { Self → paper.Readings };
+
+    fn first(self) -> Weighing
+        ensures { result ≡ (readings self).first };
+
+    fn second(self) -> Weighing
+        ensures { result ≡ (readings self).second };
+
+    ghost same_distances: { (x : Self) → bad_distance (readings x).second ≡ bad_distance (readings x).first };
+}
+
+// A plain weighing counts as the pair of itself with itself.
+impl Readings for Weighing {
+    ghost readings = { paper.alike };
+
+    ghost same_distances = { λ x. refl };
+
+    fn first(self) -> Weighing {
+        self
+    }
+
+    fn second(self) -> Weighing {
+        self
     }
 }
 
-// The second.
-fn second_of(x: Paired) -> Weighing
-    ensures { result ≡ (paper.paired x).second }
-{
-    Weighing {
-        m: x.m,
-        p: x.p2,
-        q: x.q2,
-        a: x.a,
-        b: x.b,
-        n: x.n,
+impl Readings for Paired {
+    ghost readings = { paper.paired };
+
+    ghost same_distances = { paired_distances };
+
+    fn first(self) -> Weighing {
+        Weighing {
+            m: self.m,
+            p: self.p,
+            q: self.q,
+            a: self.a,
+            b: self.b,
+            n: self.n,
+        }
+    }
+
+    fn second(self) -> Weighing {
+        Weighing {
+            m: self.m,
+            p: self.p2,
+            q: self.q2,
+            a: self.a,
+            b: self.b,
+            n: self.n,
+        }
     }
 }
 
-// The number of refusal behind 9.
-pub fn number(w: Weighing) -> u64
-    ensures { result ≡ first_number (weighing_faults (paper.alike w)) }
+// Whether both readings are accepted behind 9, or why they are refused: by number, and not reading by reading.
+fn check(first: Weighing, second: Weighing) -> Result<(), Refusal>
+    requires { bad_distance second ≡ bad_distance first }
+    ensures { number_in result ≡ first_number (weighing_faults (both first second)) }
 {
-    let reading = bad_reading(w);
-    let distance = bad_distance(w);
+    let distance = bad_distance(first);
+    let reading = bad_reading(first) | bad_reading(second);
     if reading {
-        return 1;
+        return Err(Refusal::Reading);
     }
     if distance {
-        return 2;
-    }
-    if bad_nonlifting(w) {
-        return 3;
-    }
-    0
-}
-
-// That of a paired weighing: by number, and not reading by reading. Both readings have the same distances.
-pub fn paired_number(x: Paired) -> u64
-    ensures { result ≡ first_number (weighing_faults (paper.paired x)) }
-{
-    let first = first_of(x);
-    let second = second_of(x);
-    let distances = bad_distance(first);
-    if bad_reading(first) | bad_reading(second) {
-        return 1;
-    }
-    if distances {
-        return 2;
+        return Err(Refusal::Distance);
     }
     if bad_nonlifting(first) | bad_nonlifting(second) {
-        return 3;
+        return Err(Refusal::NonLifting);
     }
-    0
+    Ok(())
 }
 
 // Two readings added up: grams of each give half grams of the glider.
@@ -94,19 +105,13 @@ fn added(first: Reading, second: Reading) -> Balance
     }
 }
 
-// G, M and n: a plain weighing counts as the pair of itself with itself.
-pub fn weighed(w: Weighing) -> Balance
-    requires { first_number (weighing_faults (paper.alike w)) ≡ 0 }
-    ensures { (plain result ≡ paper.weighed (paper.alike w)) × Bounded 1 result }
+// G, M and n of an accepted weighing, or why it is refused behind 9.
+pub fn weighed<W: Readings>(w: W) -> Result<Balance, Refusal>
+    ensures number { number_in result ≡ first_number (weighing_faults (W.readings w)) }
+    ensures accepted { IfOk result (λ b. (plain b ≡ paper.weighed (W.readings w)) × Bounded 1 b) }
 {
-    let r = reckoned(w);
-    added(r, r)
-}
-
-// Those of a paired weighing.
-pub fn paired(x: Paired) -> Balance
-    requires { first_number (weighing_faults (paper.paired x)) ≡ 0 }
-    ensures { (plain result ≡ paper.weighed (paper.paired x)) × Bounded 1 result }
-{
-    added(reckoned(first_of(x)), reckoned(second_of(x)))
+    let first = w.first();
+    let second = w.second();
+    check(first, second)?;
+    Ok(added(reckoned(first), reckoned(second)))
 }

@@ -3,11 +3,12 @@
 // The text of an entry, as a line of the logbook has it.
 ghost use Rattle.std.specs.Prelude.{◌≡◌, map, ◌+◌, ◌≤◌, length, take};
 ghost use Rattle.laws.specs.Written.{written};
+ghost use Rattle.paper.specs.Numbers.{code_of};
 ghost use Rattle.paper.specs.Rows.{joined};
 ghost use Rattle.values.specs.Places.{Readable};
 ghost use Rattle.wording.specs.Texts.{name_of, spaced, entry_text};
 
-use paper::Entry;
+use paper::{Entry, Kind};
 use values::Values;
 
 // Bytes from a place on. The answer is the place behind them.
@@ -18,16 +19,17 @@ pub fn put_bytes(out: &mut [u8], at: usize, s: &[u8]) -> usize
     at + laws::copy(s, &mut out[at..])
 }
 
-fn put_name(out: &mut [u8], at: usize, kind: u8) -> usize
-    requires { at + length (name_of kind) ≤ length out.old }
-    ensures { (result ≡ at + length (name_of kind)) × (out.new ≡ written out.old at (name_of kind)) }
+#[tactic(auto, unfolding(crate::specs::Texts::name_of))]
+fn put_name(out: &mut [u8], at: usize, kind: Kind) -> usize
+    requires { at + length (name_of (code_of kind)) ≤ length out.old }
+    ensures { (result ≡ at + length (name_of (code_of kind))) × (out.new ≡ written out.old at (name_of (code_of kind))) }
 {
     match kind {
-        1 => put_bytes(out, at, b"weighing"),
-        2 => put_bytes(out, at, b"sheet"),
-        3 => put_bytes(out, at, b"change"),
-        4 => put_bytes(out, at, b"paired"),
-        _ => put_bytes(out, at, b"seat"),
+        Kind::Weighing => put_bytes(out, at, b"weighing"),
+        Kind::Sheet => put_bytes(out, at, b"sheet"),
+        Kind::Change => put_bytes(out, at, b"change"),
+        Kind::Paired => put_bytes(out, at, b"paired"),
+        Kind::Seat => put_bytes(out, at, b"seat"),
     }
 }
 
@@ -51,6 +53,6 @@ pub fn put_entry(out: &mut [u8], at: usize, e: Entry) -> usize
     requires { Readable e × (at + length (entry_text e) ≤ length out.old) }
     ensures { (result ≡ at + length (entry_text e)) × (out.new ≡ written out.old at (entry_text e)) }
 {
-    let from = put_name(out, at, layout::kind_of(e));
+    let from = put_name(out, at, e.kind());
     put_values(out, from, values::values_of(e))
 }

@@ -1,45 +1,44 @@
 -- `entries::put_entry` meets its contract: the kind, and behind it the fields of its row. Assumes nothing.
 use mathlib.Core.Path.{◌≡◌, ap, ◌∙◌}
-use Prim.Native.Nat.{◌+◌}
+use Prim.Native.Nat.{ℕ, ◌+◌}
 use native.Mathlib.Omega.{arith}
 use borrow.Author.Rules.{rules}
-use lib.ListN.{length, length-set}
+use lib.ListN.{length, take, set, length-set}
 use Rattle.laws.specs.Written.{written, written_behind}
+use Rattle.paper.specs.Numbers.{code_of}
 use Rattle.paper.specs.File.{entry_bytes}
-use Rattle.format.specs.Fields.{total}
-use Rattle.format.specs.Rows.{fields_of}
-use Rattle.entries.proofs.Rows.{RowOf, row_in, bytes_in_lem, size_in}
+use Rattle.format.specs.Fields.{total, numbers_bytes}
+use Rattle.entries.proofs.Rows.{code, row_in, bytes_in_lem, size_in}
 use Rattle.entries.proofs.put_entry.Goals as goal
 
 pub put_fields-requires : goal.put_fields-requires
 put_fields-requires c =
-    let row : RowOf c.layout_of-row.result (fields_of c.args.e) = let f = c.fields_of-fields in
-    row_in c.args.e f.result c.layout_of-row.result f.ensures c.layout_of-row.ensures in
-    let size : c.layout_of-row.result.length + 1 ≡ length (entry_bytes c.args.e) = let f = c.fields_of-fields in
-    size_in c.args.e f.result c.layout_of-row.result f.ensures c.layout_of-row.ensures in
     let a = c.args in
-    let total_is = ap total (row).taken in
-    ((row).few, omega (arith, size, total_is, (row).size, length-set a.out.now a.at c.fields_of-fields.result.kind))
+    let k = c.kind-kind in
+    let r = c.layout_of-row in
+    let row = row_in a.e k.result r.result k.ensures r.ensures in
+    (row.few, omega (arith, size_in a.e k.result r.result k.ensures r.ensures, ap total row.taken, row.size, length-set a.out.now a.at (code_of k.result), ap (λ (n : ℕ). length (set a.out.now a.at n)) (code k.result)))
 
 pub bounds-out-at : goal.bounds-out-at
 bounds-out-at c =
-    let size : c.layout_of-row.result.length + 1 ≡ length (entry_bytes c.args.e) = let f = c.fields_of-fields in
-    size_in c.args.e f.result c.layout_of-row.result f.ensures c.layout_of-row.ensures in
-    omega (arith, size)
+    let k = c.kind-kind in
+    let r = c.layout_of-row in
+    omega (arith, size_in c.args.e k.result r.result k.ensures r.ensures)
 
 pub overflow_add-result : goal.overflow_add-result
 overflow_add-result c =
-    let size : c.layout_of-row.result.length + 1 ≡ length (entry_bytes c.args.e) = let f = c.fields_of-fields in
-    size_in c.args.e f.result c.layout_of-row.result f.ensures c.layout_of-row.ensures in
-    let h = size in search rules
+    let k = c.kind-kind in
+    let r = c.layout_of-row in
+    let size = size_in c.args.e k.result r.result k.ensures r.ensures in search rules
 
 pub returns : goal.returns
 returns c =
-    let size : c.layout_of-row.result.length + 1 ≡ length (entry_bytes c.args.e) = let f = c.fields_of-fields in
-    size_in c.args.e f.result c.layout_of-row.result f.ensures c.layout_of-row.ensures in
-    let put : c.put_fields.new.out ≡ written c.args.out.now c.args.at (entry_bytes c.args.e) = let a = c.args in
-    let f = c.fields_of-fields in
-    c.put_fields.ensures
-    ∙ written_behind a.out.now a.at f.result.kind _ (omega (arith, size))
-    ∙ ap (written a.out.now a.at) (bytes_in_lem a.e f.result c.layout_of-row.result f.ensures c.layout_of-row.ensures) in
+    let a = c.args in
+    let k = c.kind-kind in
+    let r = c.layout_of-row in
+    let size = size_in a.e k.result r.result k.ensures r.ensures in
+    let put : c.put_fields.new.out ≡ written a.out.now a.at (entry_bytes a.e) = c.put_fields.ensures
+    ∙ ap (λ (n : ℕ). written (set a.out.now a.at n) (a.at + 1) (numbers_bytes (take r.result.count r.result.widths) (take r.result.count c.words_of.result))) (code k.result)
+    ∙ written_behind a.out.now a.at (code_of k.result) _ (omega (arith, size))
+    ∙ ap (written a.out.now a.at) (bytes_in_lem a.e k.result r.result k.ensures r.ensures c.words_of.result c.words_of.ensures) in
     (omega (arith, size), put)

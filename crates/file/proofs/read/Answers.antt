@@ -16,6 +16,7 @@ use Rattle.header.proofs.Judging.{enough_bytes}
 use Rattle.stored.proofs.Headers.{bad_header, good_header}
 use Rattle.stored.proofs.Reading.{no_entry, left_over, all_passed}
 use Rattle.file.proofs.Reading.{begun, sound_in, refused, one_more, no_file, a_file}
+use Rattle.paper.specs.Numbers.{code_of}
 use Rattle.file.proofs.read.Goals as goal
 
 pub returns-then-not-is_headed : goal.returns-then-not-is_headed
@@ -43,7 +44,7 @@ returns-in_default c =
     let bytes : are_bytes c.args.s.now ≡ true = bytes_at c.args.s.now (λ i h. (c.shared_slice_known-1.given i).fits) in
     let right : headed c.args.s.now ≡ true = sym c.is_headed.ensures ∙ c.if-not-is_headed.false in
     let bytes_read : List ℕ = c.args.s.now in
-    let found : file_of bytes_read ≡ entries_to c.last_kind-kinds.result (get_or bytes_read 5 0) (drop 6 bytes_read) = good_header bytes_read bytes right
+    let found : file_of bytes_read ≡ entries_to (code_of c.last_kind-kinds.result) (get_or bytes_read 5 0) (drop 6 bytes_read) = good_header bytes_read bytes right
     ∙ ap (λ (k : ℕ). entries_to k (get_or bytes_read 5 0) (drop 6 bytes_read)) (sym c.last_kind-kinds.ensures) in
     let l = c.loop-i in
     no_file _ _ (found ∙ no_entry _ _ _ l.i l.at _ l.invariant.1.passed bytes c.loop-i-test.true (sym c.entry_to.ensures ∙ c.in_default.is))
@@ -58,12 +59,12 @@ returns-in_default-judge c =
     let bytes : are_bytes c.args.s.now ≡ true = bytes_at c.args.s.now (λ i h. (c.shared_slice_known-1.given i).fits) in
     let right : headed c.args.s.now ≡ true = sym c.is_headed.ensures ∙ c.if-not-is_headed.false in
     let bytes_read : List ℕ = c.args.s.now in
-    let found : file_of bytes_read ≡ entries_to c.last_kind-kinds.result (get_or bytes_read 5 0) (drop 6 bytes_read) = good_header bytes_read bytes right
+    let found : file_of bytes_read ≡ entries_to (code_of c.last_kind-kinds.result) (get_or bytes_read 5 0) (drop 6 bytes_read) = good_header bytes_read bytes right
     ∙ ap (λ (k : ℕ). entries_to k (get_or bytes_read 5 0) (drop 6 bytes_read)) (sym c.last_kind-kinds.ensures) in
-    let got = sym c.entry_to.ensures ∙ c.in-Got.is in
+    let got = sym c.entry_to.ensures ∙ c.in-Some.is in
     let l = c.loop-i in
     let says = rw c.in_default-judge.is at c.judge.ensures in
-    no_file _ _ (found ∙ refused _ _ _ l.i l.at _ _ l.invariant.1 bytes c.loop-i-test.true c.in-Got.entry _ got says.1)
+    no_file _ _ (found ∙ refused _ _ _ l.i l.at _ _ l.invariant.1 bytes c.loop-i-test.true c.in-Some.entry _ got says.1)
 
 pub bounds-log-i : goal.bounds-log-i
 bounds-log-i c =
@@ -73,11 +74,11 @@ bounds-log-i c =
 pub loop-i-preserved : goal.loop-i-preserved
 loop-i-preserved c =
     let bytes : are_bytes c.args.s.now ≡ true = bytes_at c.args.s.now (λ i h. (c.shared_slice_known-1.given i).fits) in
-    let got = sym c.entry_to.ensures ∙ c.in-Got.is in
+    let got = sym c.entry_to.ensures ∙ c.in-Some.is in
     let l = c.loop-i in
     let says = rw c.in-Accepted.is at c.judge.ensures in (
       omega arith,
-      one_more _ _ _ l.i l.at _ _ l.invariant.1 bytes c.loop-i-test.true c.in-Got.entry _ got says.0 _ says.1 says.2,
+      one_more _ _ _ l.i l.at _ _ l.invariant.1 bytes c.loop-i-test.true c.in-Some.entry _ got says.0 _ says.1 says.2,
     )
 
 pub returns-then-at-s : goal.returns-then-at-s
@@ -85,7 +86,7 @@ returns-then-at-s c =
     let bytes : are_bytes c.args.s.now ≡ true = bytes_at c.args.s.now (λ i h. (c.shared_slice_known-1.given i).fits) in
     let right : headed c.args.s.now ≡ true = sym c.is_headed.ensures ∙ c.if-not-is_headed.false in
     let bytes_read : List ℕ = c.args.s.now in
-    let found : file_of bytes_read ≡ entries_to c.last_kind-kinds.result (get_or bytes_read 5 0) (drop 6 bytes_read) = good_header bytes_read bytes right
+    let found : file_of bytes_read ≡ entries_to (code_of c.last_kind-kinds.result) (get_or bytes_read 5 0) (drop 6 bytes_read) = good_header bytes_read bytes right
     ∙ ap (λ (k : ℕ). entries_to k (get_or bytes_read 5 0) (drop 6 bytes_read)) (sym c.last_kind-kinds.ensures) in
     let l = c.loop-i in
     no_file _ _ (found ∙ left_over _ _ _ l.i l.at _ l.invariant.1.passed (omega arith) c.if-at-s.true)
@@ -95,7 +96,7 @@ returns c =
     let bytes : are_bytes c.args.s.now ≡ true = bytes_at c.args.s.now (λ i h. (c.shared_slice_known-1.given i).fits) in
     let right : headed c.args.s.now ≡ true = sym c.is_headed.ensures ∙ c.if-not-is_headed.false in
     let bytes_read : List ℕ = c.args.s.now in
-    let found : file_of bytes_read ≡ entries_to c.last_kind-kinds.result (get_or bytes_read 5 0) (drop 6 bytes_read) = good_header bytes_read bytes right
+    let found : file_of bytes_read ≡ entries_to (code_of c.last_kind-kinds.result) (get_or bytes_read 5 0) (drop 6 bytes_read) = good_header bytes_read bytes right
     ∙ ap (λ (k : ℕ). entries_to k (get_or bytes_read 5 0) (drop 6 bytes_read)) (sym c.last_kind-kinds.ensures) in
     let l = c.loop-i in
     a_file c.args.r l.log _ _ (found ∙ all_passed _ _ _ l.i l.at _ l.invariant.1.passed (omega arith) c.if-at-s.false) l.invariant.1.held.log

@@ -1,75 +1,42 @@
--- `record::replay` meets its contract. The loop's invariant: the entries of the slots passed are replayed; the measure is
--- what is left of the slots. Assumes nothing.
-use borrow.Author.Rules.{rules}
-use borrow.Author.Tests.{ltb-true, ltb-false}
-use mathlib.Core.Path.{◌≡◌, refl}
-use mathlib.Core.List.{[]}
+-- `record::replay` meets its contract: each slot is passed over, or its entry is put behind the others. Assumes nothing.
+use Rattle.std.proofs.Common.{◌≡◌, refl, sym, ◌∙◌, length, rules}
 use Prim.Native.Nat.{◌<◌}
 use native.Mathlib.Omega.{arith}
-use lib.ListN.{length, replicate}
-use Rattle.judge.proofs.Judging.{room_of}
-use Rattle.paper.specs.Refusals.{capacity}
-use Rattle.record.specs.Held.{record_of, replayed}
-use Rattle.record.proofs.Replays.{held_ended, held_out, begun, one_more, stands_at, passed_over_lem, gone_on}
+use Rattle.record.specs.Held.{replayed}
+use Rattle.record.proofs.Replays.{held_all, one_more, room, gone_on, passed_over}
+use Rattle.record.proofs.Calls.{ok_number, err_number}
 use Rattle.record.proofs.replay.Goals as goal
+use Rattle.record.proofs.replay.Goals.{then-is_ok, else-is_ok}
 
 pub loop-i-init : goal.loop-i-init
-unfolding record_of replayed
-loop-i-init c =
-    let fresh : record { slots = replicate capacity c.unused-slots.result; count = 0 } ≡ record_of [] = rw c.unused-slots.ensures in
-    (omega arith, omega arith, begun _ fresh)
+unfolding replayed
+loop-i-init c = record { log = c.fresh-log.ensures; stands = c.new-standing.ensures }
 
-pub judge-requires : goal.judge-requires
-judge-requires c = (stands_at _ _ c.loop-i.invariant.2).sound
+pub bounds-log-log : goal.bounds-log-log
+bounds-log-log c = room _ _ c.loop-i.invariant _ _ _ c.add.ensures (ok_number _ (sym c.if-is_ok.ensures.value))
 
-pub loop-i-preserved-in-Refused : goal.loop-i-preserved-in-Refused
-loop-i-preserved-in-Refused c =
-    let all_slots : length c.args.r.slots ≡ capacity = search rules in
-    let l = c.loop-i in
-    let says = rw c.in-Refused.is at c.judge.ensures in (
-      omega arith,
-      omega (arith, ltb-true),
-      one_more c.args.r.slots l.i _ _ (omega (arith, all_slots)) (passed_over_lem _ (record { log = record { slots = l.slots; count = l.n }; standing = l.standing }) l.invariant.2 _ says.1),
-    )
+pub offset_bounds-log-log : goal.offset_bounds-log-log
+offset_bounds-log-log c = omega (arith, room _ _ c.loop-i.invariant _ _ _ c.add.ensures (ok_number _ (sym c.if-is_ok.ensures.value)))
 
-pub offset_bounds-slots-n : goal.offset_bounds-slots-n
-offset_bounds-slots-n c =
-    let within : c.loop-i.n < capacity = let l = c.loop-i in
-    let says = rw c.in-Accepted.is at c.judge.ensures in
-    room_of l.n _ _ says.0 in
-    omega (arith, within)
-
-pub bounds-slots-n : goal.bounds-slots-n
-bounds-slots-n c =
-    let within : c.loop-i.n < capacity = let l = c.loop-i in
-    let says = rw c.in-Accepted.is at c.judge.ensures in
-    room_of l.n _ _ says.0 in
-    omega (arith, within)
-
-pub overflow_add-n : goal.overflow_add-n
-overflow_add-n c =
-    let within : c.loop-i.n < capacity = let l = c.loop-i in
-    let says = rw c.in-Accepted.is at c.judge.ensures in
-    room_of l.n _ _ says.0 in
-    omega (arith, within)
+pub overflow_add-log : goal.overflow_add-log
+overflow_add-log c = omega (arith, room _ _ c.loop-i.invariant _ _ _ c.add.ensures (ok_number _ (sym c.if-is_ok.ensures.value)))
 
 pub loop-i-preserved : goal.loop-i-preserved
 loop-i-preserved c =
-    let all_slots : length c.args.r.slots ≡ capacity = search rules in
     let l = c.loop-i in
-    let says = rw c.in-Accepted.is at c.judge.ensures in (
-      omega arith,
-      omega (arith, ltb-true),
-      one_more c.args.r.slots l.i _ _ (omega (arith, all_slots)) (gone_on _ (record { log = record { slots = l.slots; count = l.n }; standing = l.standing }) l.invariant.2 _ says.0 _ refl says.1 says.2),
-    )
+    let slots = c.args.r.now.slots in
+    let short : l.i < length slots = search rules in
+    elim c.if-is_ok.branch [
+      then-is_ok w ↦
+        rw w.log-is
+        (one_more slots l.i _ _ short (gone_on _ _ l.invariant _ _ _ c.add.ensures c.add.new.self refl (ok_number _ (sym w.if-is_ok.ensures.value))))
+      | else-is_ok w ↦
+        rw w.log-is
+        (one_more slots l.i _ _ short (passed_over _ _ l.invariant _ _ _ c.add.ensures c.add.new.self refl (err_number _ (sym w.if-is_ok.ensures.value))))
+    ]
 
-pub returns-else-i-r : goal.returns-else-i-r
-returns-else-i-r c =
-    let l = c.loop-i in
-    rw (held_ended c.args.r l.i (omega (arith, ltb-false))) at l.invariant.2
-
-pub returns-after-loop-i : goal.returns-after-loop-i
-returns-after-loop-i c =
-    let all_slots : length c.args.r.slots ≡ capacity = search rules in
-    let l = c.loop-i in
-    rw (held_out c.args.r l.i (omega (arith, all_slots)) l.invariant.1) at l.invariant.2
+pub returns : goal.returns
+returns c =
+    let all : length c.args.r.now.slots ≡ 64 = search rules in
+    let at : c.loop-i.i ≡ c.min-i-end.result = omega arith in
+    rw (held_all c.args.r.now c.loop-i.i (at ∙ c.min-i-end.ensures) all) at c.loop-i.invariant

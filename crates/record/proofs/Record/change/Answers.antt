@@ -1,4 +1,4 @@
--- `record::Record::change` meets its contract: it is what `add` says of the entry. Assumes nothing.
+-- `Record::change` meets its contract: it is what `add` says of the entry. Assumes nothing.
 use Rattle.paper.specs.Refusals.{entry_number}
 use Rattle.paper.specs.Journal.{call_number, accepted_call}
 use Rattle.record.specs.Held.{answered}
@@ -6,4 +6,4 @@ use Rattle.record.proofs.Record.change.Goals as goal
 
 pub returns : goal.returns
 unfolding answered call_number accepted_call entry_number
-returns c = c.add.ensures
+returns c = rw c.into.ensures at c.add.ensures
