@@ -14,8 +14,7 @@ use Rattle.paper.specs.Record.{Balance, Readings, alike, paired, weighed, change
 use Rattle.paper.specs.Refusals.{full, weighing_number, sheet_number, change_number, seat_number, entry_number}
 use Rattle.seat.specs.InForce.{with_ends, in_force}
 use Rattle.seat.proofs.Lists.{force_more}
-use Rattle.judge.specs.declared.Standing.{Standing}
-use Rattle.judge.specs.Standing.{Stands, stands_in, plainly, number_at, balance_after, after, judged, kept_behind}
+use Rattle.judge.specs.Standing.{Stands, stands_in, number_at, balance_after, after, judged, kept_behind}
 
 -- a weighing, plain or paired, is the last
 last-opened : (es : List Entry) (e : Entry) (x : Readings) → opened e [] ≡ some (x, []) → last_weighing (es ++ e ∷ []) ≡ some (x, [])
@@ -122,7 +121,7 @@ judged_in es e = rw (← number_at_lem es e, ← stands-more es e) (λ i. (entry
     by false = refl
 
 -- a judgement that was made where a list stands
-pub judged_at : (es : List Entry) (s t : Standing) (e : Entry) (n : ℕ) → plainly s ≡ stands_in es → ◌≡◌ {A = ℕ × Stands} (n, plainly t) (judged (plainly s) e) → (n ≡ entry_number es e) × (plainly t ≡ stands_in (kept_behind es e))
-judged_at es s t e n h j =
-    let told = j ∙ ap (λ (o : Stands). judged o e) h ∙ judged_in es e in
+pub judged_at : (es : List Entry) (o p : Stands) (e : Entry) (n : ℕ) → o ≡ stands_in es → ◌≡◌ {A = ℕ × Stands} (n, p) (judged o e) → (n ≡ entry_number es e) × (p ≡ stands_in (kept_behind es e))
+judged_at es o p e n h j =
+    let told = j ∙ ap (λ (q : Stands). judged q e) h ∙ judged_in es e in
     (ap (λ (x : ℕ × Stands). x.0) told, ap (λ (x : ℕ × Stands). x.1) told)

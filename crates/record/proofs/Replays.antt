@@ -3,7 +3,9 @@
 use mathlib.Core.Path.{◌≡◌, refl, sym, ◌∙◌, ap}
 use mathlib.Core.Bool.{true}
 use mathlib.Core.List.{List, [], ◌∷◌, ◌++◌}
-use Prim.Native.Nat.{ℕ, ◌+◌, ◌≤◌, ◌<◌}
+use Prim.Native.Nat.{ℕ, ◌+◌, ◌≤◌, ◌<◌, min}
+use Rattle.std.proofs.Math.Nat.{min-eq_left, min-eq_right}
+use native.Mathlib.Decide.{dec_le}
 use native.Mathlib.Omega.{arith}
 use lib.ListN.{length, take, get_or}
 use lib.Seq.{take_all}
@@ -31,13 +33,13 @@ held_more slots i d h =
     rw (take_more slots i d h, replayed-more [] (take i slots) (get_or slots i d))
 
 -- they end where the count does, or where the slots do
-pub held_ended : (r : Record) (i : ℕ) → i ≡ r.count → held_to r.slots i ≡ held_by r
+pub held_all : (r : Record) (i : ℕ) → i ≡ min r.count 64 → length r.slots ≡ 64 → held_to r.slots i ≡ held_by r
 unfolding held_by slotted
-held_ended r i e = rw e
-
-pub held_out : (r : Record) (i : ℕ) → length r.slots ≤ i → i ≤ r.count → held_to r.slots i ≡ held_by r
-unfolding held_by slotted
-held_out r i h k = rw (take_all r.count r.slots (omega arith), take_all i r.slots h)
+held_all r i e h =
+    elim (dec_le r.count 64) as (λ d. held_to r.slots i ≡ replayed [] (take r.count r.slots)) [
+      | yes k ↦ rw (e ∙ min-eq_left k) refl
+      | no k ↦ rw (e ∙ min-eq_right (omega arith), take_all r.count r.slots (omega arith), take_all 64 r.slots (omega arith)) refl
+    ]
 
 -- what is held was accepted, so there is little of it
 pub accepted_to : (slots : List Entry) (i : ℕ) → accepted (held_to slots i) ≡ true
@@ -65,9 +67,9 @@ module _ (es : List Entry) (r : Replayed) (at : ReplayedAs es r) where
   count_is = ap (λ (l : Record). l.count) at.log
 
   -- an entry that was judged there, by its number
-  module _ (e : Entry) (t : Standing) (n : ℕ) (j : ◌≡◌ {A = ℕ × Stands} (n, plainly t) (judged (plainly r.standing) e)) where
-    told : (n ≡ entry_number es e) × (plainly t ≡ stands_in (kept_behind es e))
-    told = judged_at es r.standing t e n at.stands j
+  module _ (e : Entry) (p : Stands) (n : ℕ) (j : ◌≡◌ {A = ℕ × Stands} (n, p) (judged (plainly r.standing) e)) where
+    told : (n ≡ entry_number es e) × (p ≡ stands_in (kept_behind es e))
+    told = judged_at es (plainly r.standing) p e n at.stands j
 
     pub number_is : n ≡ entry_number es e
     number_is = told.0
@@ -78,8 +80,8 @@ module _ (es : List Entry) (r : Replayed) (at : ReplayedAs es r) where
     pub log_more : n ≡ 0 → put r.log e ≡ record_of (es ++ e ∷ [])
     log_more z = ap (λ (l : Record). put l e) at.log ∙ put_is es e (room_for es e (sym number_is ∙ z))
 
-    pub gone_on : n ≡ 0 → ReplayedAs (kept_behind es e) (record { log = put r.log e; standing = t })
-    gone_on z = record { log = log_more z ∙ ap record_of (sym (kept_added es e (sym number_is ∙ z))); stands = told.1 }
+    pub gone_on : (t : Standing) → plainly t ≡ p → n ≡ 0 → ReplayedAs (kept_behind es e) (record { log = put r.log e; standing = t })
+    gone_on t k z = record { log = log_more z ∙ ap record_of (sym (kept_added es e (sym number_is ∙ z))); stands = k ∙ told.1 }
 
-    pub passed_over : 0 < n → ReplayedAs (kept_behind es e) (record { log = r.log; standing = t })
-    passed_over h = record { log = at.log ∙ ap record_of (sym (kept_same es e (rw number_is at h))); stands = told.1 }
+    pub passed_over : (t : Standing) → plainly t ≡ p → 0 < n → ReplayedAs (kept_behind es e) (record { log = r.log; standing = t })
+    passed_over t k h = record { log = at.log ∙ ap record_of (sym (kept_same es e (rw number_is at h))); stands = k ∙ told.1 }

@@ -80,10 +80,10 @@ impl Record {
     }
 
     // A paired weighing.
-    pub fn weigh_paired(&mut self, x: Paired) -> Result<(), Refusal>
-        ensures { (result, self.new) ≡ answered self.old (journal.pair x) }
+    pub fn weigh_paired(&mut self, pair: Paired) -> Result<(), Refusal>
+        ensures { (result, self.new) ≡ answered self.old (journal.pair pair) }
     {
-        self.add(x.into())
+        self.add(pair.into())
     }
 
     // A data sheet.
