@@ -6,7 +6,8 @@ ghost use Rattle.laws.specs.Written.{written};
 ghost use Rattle.paper.specs.File.{entry_bytes};
 ghost use Rattle.entries.specs.Walking.{fields_walk, walk_at};
 
-use paper::{Entry, Kind};
+use kinds::Stored;
+use paper::{Change, Entry, Kind, Paired, Seat, Sheet, Weighing};
 
 // An entry: its kind, and its fields. The answer is the place behind it.
 pub fn put_entry(out: &mut [u8], at: usize, e: Entry) -> usize
@@ -29,74 +30,15 @@ pub fn length_of(e: Entry) -> usize
     row.length + 1
 }
 
-// What stands behind the kind of a weighing: its fields, where there are bytes enough.
-fn weighing_from(s: &[u8], from: usize) -> Option<(Entry, usize)>
+// What stands behind a kind: its fields, where there are bytes enough.
+fn entry_from<T: Stored>(s: &[u8], from: usize) -> Option<(Entry, usize)>
     requires { from ≤ length s.now }
-    ensures { result ≡ fields_walk 1 s.now from }
+    ensures { result ≡ fields_walk T.kind s.now from }
 {
-    if s.len() - from < 21 {
+    if s.len() - from < T::LENGTH {
         return None;
     }
-    Some((
-        unpack::entry_of(Kind::Weighing, fields::weighing_at(s, from)),
-        from + 21,
-    ))
-}
-
-// Behind the kind of a sheet.
-fn sheet_from(s: &[u8], from: usize) -> Option<(Entry, usize)>
-    requires { from ≤ length s.now }
-    ensures { result ≡ fields_walk 2 s.now from }
-{
-    if s.len() - from < 60 {
-        return None;
-    }
-    Some((
-        unpack::entry_of(Kind::Sheet, fields::sheet_at(s, from)),
-        from + 60,
-    ))
-}
-
-// Behind the kind of a change.
-fn change_from(s: &[u8], from: usize) -> Option<(Entry, usize)>
-    requires { from ≤ length s.now }
-    ensures { result ≡ fields_walk 3 s.now from }
-{
-    if s.len() - from < 9 {
-        return None;
-    }
-    Some((
-        unpack::entry_of(Kind::Change, fields::change_at(s, from)),
-        from + 9,
-    ))
-}
-
-// Behind the kind of a paired weighing.
-fn paired_from(s: &[u8], from: usize) -> Option<(Entry, usize)>
-    requires { from ≤ length s.now }
-    ensures { result ≡ fields_walk 4 s.now from }
-{
-    if s.len() - from < 29 {
-        return None;
-    }
-    Some((
-        unpack::entry_of(Kind::Paired, fields::paired_at(s, from)),
-        from + 29,
-    ))
-}
-
-// Behind the kind of a seat.
-fn seat_from(s: &[u8], from: usize) -> Option<(Entry, usize)>
-    requires { from ≤ length s.now }
-    ensures { result ≡ fields_walk 5 s.now from }
-{
-    if s.len() - from < 8 {
-        return None;
-    }
-    Some((
-        unpack::entry_of(Kind::Seat, fields::seat_at(s, from)),
-        from + 8,
-    ))
+    Some((T::entry_at(s, from), from + T::LENGTH))
 }
 
 // The entry at a place, and the place behind it; none where nothing there is one.
@@ -111,10 +53,10 @@ pub fn next_entry(s: &[u8], at: usize) -> Option<(Entry, usize)>
     };
     let from = at + 1;
     match kind {
-        Kind::Weighing => weighing_from(s, from),
-        Kind::Sheet => sheet_from(s, from),
-        Kind::Change => change_from(s, from),
-        Kind::Paired => paired_from(s, from),
-        Kind::Seat => seat_from(s, from),
+        Kind::Weighing => entry_from::<Weighing>(s, from),
+        Kind::Sheet => entry_from::<Sheet>(s, from),
+        Kind::Change => entry_from::<Change>(s, from),
+        Kind::Paired => entry_from::<Paired>(s, from),
+        Kind::Seat => entry_from::<Seat>(s, from),
     }
 }

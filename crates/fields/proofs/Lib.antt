@@ -1,3 +1,2 @@
--- What the proofs share: one field more, and words by their places.
+-- What the proofs share: one field more.
 pub mod Turns
-pub mod Placed

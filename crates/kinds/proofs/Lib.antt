@@ -1,2 +1,3 @@
--- What the proofs share: the values of a list as they are held.
+-- What the proofs share: the values of a list as they are held, and those of bytes by their places.
 pub mod Held
+pub mod Placed

@@ -2,9 +2,9 @@
 use Rattle.std.specs.Prelude.{List, [], ◌++◌, ℕ, ◌-◌, length, replicate}
 use Rattle.std.proofs.Math.Option.{Option, none, some}
 use Rattle.paper.specs.declared.Entry.{Entry}
-use Rattle.paper.specs.File.{Field, values_of, entry_of}
-use Rattle.format.specs.Fields.{widths, total, values_by, words_by}
-use Rattle.format.specs.Rows.{fields_of, fields_at}
+use Rattle.paper.specs.File.{Field, values_of}
+use Rattle.format.specs.Fields.{widths, total, words_by}
+use Rattle.format.specs.Rows.{fields_of}
 use Rattle.layout.specs.declared.Layout.{Layout}
 
 -- numbers in the first of fifteen places, 0 in the others
@@ -19,7 +19,3 @@ row_of (some fs) = record { count = length fs; length = total (widths fs); width
 -- the words of an entry's fields
 unfoldable pub words_of : Entry → List ℕ
 words_of e = words_by (fields_of e) (values_of e)
-
--- the entry of a kind whose fields hold these words
-unfoldable pub entry_with : ℕ → List ℕ → Entry
-entry_with k ns = entry_of k (values_by (fields_at k) ns)
