@@ -9,7 +9,7 @@ use native.Mathlib.Numerals.{add-one}
 use native.Mathlib.Omega.{arith}
 use lib.ListN.{length, get_or, drop, length-drop, drop_of_length-le}
 use lib.Seq.{drop-cons}
-use borrow.Author.Tests.{le-leb, lt-leb}
+use borrow.Author.Tests.{le-leb, lt-leb, ne_eqb}
 use Rattle.paper.specs.declared.Entry.{Entry}
 use Rattle.paper.specs.declared.Kind.{Kind}
 use Rattle.paper.specs.declared.Kind.TheVariants as kind
@@ -17,7 +17,6 @@ use Rattle.paper.specs.Numbers.{code_of}
 use Rattle.paper.specs.File.{Field, layout_of, the_fields, entry_of, take_entry}
 use Rattle.format.specs.Fields.{widths, total, numbers_from, values_by, take_fields_lem}
 use Rattle.format.specs.Rows.{fields_at}
-use Rattle.layout.proofs.Rows.{no_row}
 use Rattle.kinds.specs.Values.{values_from}
 use Rattle.entries.specs.Walking.{fields_walk, walk_at}
 
@@ -75,6 +74,10 @@ kind_row kind.Seat = refl
 pub kind_got : (s : List ℕ) (at : ℕ) (k : Kind) (x : Option (Entry × ℕ)) → at < length s → code_of k ≡ get_or s at 0 → x ≡ fields_walk (code_of k) s (at + 1) → x ≡ walk_at s at
 kind_got s at k x h e w =
     w ∙ ap (λ (j : ℕ). fields_walk j s (at + 1)) e ∙ kind_here s at h (fields_at (code_of k)) (ap layout_of (sym e) ∙ kind_row k)
+
+no_row : (k : ℕ) → (k ≡ 1 → ⊥) → (k ≡ 2 → ⊥) → (k ≡ 3 → ⊥) → (k ≡ 4 → ⊥) → (k ≡ 5 → ⊥) → layout_of k ≡ none
+unfolding layout_of
+no_row k a b c d e = rw (ne_eqb k 1 a, ne_eqb k 2 b, ne_eqb k 3 c, ne_eqb k 4 d, ne_eqb k 5 e)
 
 pub no_kind_got : (s : List ℕ) (at : ℕ) → at < length s → ((k : Kind) → code_of k ≡ get_or s at 0 → ⊥) → None ≡ walk_at s at
 no_kind_got s at h f =

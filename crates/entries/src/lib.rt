@@ -1,33 +1,51 @@
 #![tactic(auto)]
 
 // One entry's bytes: written at a place of a buffer, and read at a place of a slice.
-ghost use Rattle.std.specs.Prelude.{◌≡◌, ◌+◌, ◌≤◌, length};
+ghost use Rattle.std.specs.Prelude.{◌≡◌, ◌∷◌, ◌+◌, ◌≤◌, length};
 ghost use Rattle.laws.specs.Written.{written};
-ghost use Rattle.paper.specs.File.{entry_bytes};
+ghost use Rattle.paper.specs.Numbers.{code_of};
+ghost use Rattle.paper.specs.File.{values_of, fields_bytes, entry_bytes};
+ghost use Rattle.format.specs.Rows.{fields_at};
 ghost use Rattle.entries.specs.Walking.{fields_walk, walk_at};
 
 use kinds::Stored;
 use paper::{Change, Entry, Kind, Paired, Seat, Sheet, Weighing};
+
+// A kind, and behind it the fields of an entry. The answer is the place behind them.
+fn put_stored<T: Stored>(out: &mut [u8], at: usize, kind: Kind, x: T) -> usize
+    requires { at + 1 + T.LENGTH ≤ length out.old }
+    ensures { (result ≡ at + 1 + T.LENGTH) × (out.new ≡ written out.old at (code_of kind ∷ fields_bytes (fields_at T.kind) (values_of (T.entry x)))) }
+{
+    out[at] = kind as u8;
+    x.put(out, at + 1);
+    at + 1 + T::LENGTH
+}
 
 // An entry: its kind, and its fields. The answer is the place behind it.
 pub fn put_entry(out: &mut [u8], at: usize, e: Entry) -> usize
     requires { at + length (entry_bytes e) ≤ length out.old }
     ensures { (result ≡ at + length (entry_bytes e)) × (out.new ≡ written out.old at (entry_bytes e)) }
 {
-    let kind = e.kind();
-    let row = layout::layout_of(kind);
-    let from = at + 1;
-    out[at] = kind as u8;
-    fields::put_fields(out, from, row, layout::words_of(e));
-    from + row.length
+    match e {
+        Entry::Weighing(w) => put_stored(out, at, Kind::Weighing, w),
+        Entry::Sheet(s) => put_stored(out, at, Kind::Sheet, s),
+        Entry::Change(x) => put_stored(out, at, Kind::Change, x),
+        Entry::Paired(x) => put_stored(out, at, Kind::Paired, x),
+        Entry::Seat(f) => put_stored(out, at, Kind::Seat, f),
+    }
 }
 
 // How many bytes an entry takes.
 pub fn length_of(e: Entry) -> usize
     ensures { result ≡ length (entry_bytes e) }
 {
-    let row = layout::layout_of(e.kind());
-    row.length + 1
+    match e {
+        Entry::Weighing(_) => 1 + Weighing::LENGTH,
+        Entry::Sheet(_) => 1 + Sheet::LENGTH,
+        Entry::Change(_) => 1 + Change::LENGTH,
+        Entry::Paired(_) => 1 + Paired::LENGTH,
+        Entry::Seat(_) => 1 + Seat::LENGTH,
+    }
 }
 
 // What stands behind a kind: its fields, where there are bytes enough.

@@ -1,17 +1,25 @@
 #![tactic(auto)]
 
-// Each kind of entry as it is read: of its values in the order of the file, and of the bytes that its fields take.
+// Each kind of entry as the file has it: put as the bytes of its fields, and read of them, or of its values in their order.
 ghost use Rattle.std.specs.Prelude.{◌≡◌, ℕ, ◌+◌, ◌≤◌, pos, nat_abs, length, take, drop};
-ghost use Rattle.paper.specs.File.{number_of, signed_word, field_value, entry_of};
+ghost use Rattle.laws.specs.Written.{written};
+ghost use Rattle.paper.specs.declared.Entry.{Entry};
+ghost use Rattle.paper.specs.declared.Entry.TheVariants as entry;
+ghost use Rattle.paper.specs.File.{bytes_of, number_of, complement, signed_word, field_value, values_of, fields_bytes, entry_of};
 ghost use Rattle.format.specs.Fields.{widths, total};
 ghost use Rattle.format.specs.Rows.{fields_at};
 ghost use Rattle.kinds.specs.Values.{values_from, total_weighing, total_sheet, total_change, total_paired, total_seat};
 
 use paper::{Change, Entry, Paired, Seat, Sheet, Station, Weighing};
-use words::{number_at, signed};
+use words::{number_at, put_number, signed, word_of};
+
+// The most fields that a kind has.
+pub const FIELDS: usize = 15;
 
 // A kind of entry: how many bytes its fields take, and the entry that its values or their bytes make.
 pub trait Stored {
+    ghost entry: { Self → Entry };
+
     ghost kind: { ℕ };
 
     ghost count: { ℕ };
@@ -28,6 +36,11 @@ pub trait Stored {
     fn entry_at(s: &[u8], at: usize) -> Entry
         requires { at + LENGTH ≤ length s.now }
         ensures { result ≡ entry_of kind (values_from kind (drop at s.now)) };
+
+    // Its fields, one behind the other.
+    fn put(self, out: &mut [u8], at: usize)
+        requires { at + LENGTH ≤ length out.old }
+        ensures { out.new ≡ written out.old at (fields_bytes (fields_at kind) (values_of (entry self))) };
 
     ghost sized: { LENGTH ≡ total (widths (fields_at kind)) };
 }
@@ -75,8 +88,34 @@ fn signed_at(s: &[u8], at: usize) -> i64
     signed(number_at(s, at, 4))
 }
 
+// A byte, a word and a signed word put at a place. The answer is the place behind.
+fn put_byte(out: &mut [u8], at: usize, n: u64) -> usize
+    requires { at + 1 ≤ length out.old }
+    ensures { (result ≡ at + 1) × (out.new ≡ written out.old at (bytes_of 1 n)) }
+{
+    put_number(out, at, 1, n);
+    at + 1
+}
+
+fn put_word(out: &mut [u8], at: usize, n: u64) -> usize
+    requires { at + 4 ≤ length out.old }
+    ensures { (result ≡ at + 4) × (out.new ≡ written out.old at (bytes_of 4 n)) }
+{
+    put_number(out, at, 4, n);
+    at + 4
+}
+
+fn put_signed(out: &mut [u8], at: usize, x: i64) -> usize
+    requires { at + 4 ≤ length out.old }
+    ensures { (result ≡ at + 4) × (out.new ≡ written out.old at (bytes_of 4 (complement 4 x))) }
+{
+    put_word(out, at, word_of(x))
+}
+
 // m; p, q, a, b, n
 impl Stored for Weighing {
+    ghost entry = { λ x. entry.Weighing x };
+
     ghost kind = { 1 };
 
     ghost count = { 6 };
@@ -113,10 +152,21 @@ impl Stored for Weighing {
             word_at(s, n),
         ])
     }
+
+    fn put(self, out: &mut [u8], at: usize) {
+        let at = put_byte(out, at, self.m);
+        let at = put_word(out, at, self.p);
+        let at = put_word(out, at, self.q);
+        let at = put_signed(out, at, self.a);
+        let at = put_word(out, at, self.b);
+        put_word(out, at, self.n);
+    }
 }
 
 // FWD, AFT, DRY, WET, NLP; front arm, least, greatest, step; rear and water arm, greatest, step
 impl Stored for Sheet {
+    ghost entry = { λ x. entry.Sheet x };
+
     ghost kind = { 2 };
 
     ghost count = { 15 };
@@ -174,10 +224,30 @@ impl Stored for Sheet {
             word_at(s, water_step),
         ])
     }
+
+    fn put(self, out: &mut [u8], at: usize) {
+        let at = put_signed(out, at, self.fwd);
+        let at = put_signed(out, at, self.aft);
+        let at = put_word(out, at, self.dry);
+        let at = put_word(out, at, self.wet);
+        let at = put_word(out, at, self.nlp);
+        let at = put_signed(out, at, self.front.arm);
+        let at = put_word(out, at, self.least);
+        let at = put_word(out, at, self.front.most);
+        let at = put_word(out, at, self.front.step);
+        let at = put_signed(out, at, self.rear.arm);
+        let at = put_word(out, at, self.rear.most);
+        let at = put_word(out, at, self.rear.step);
+        let at = put_signed(out, at, self.water.arm);
+        let at = put_word(out, at, self.water.most);
+        put_word(out, at, self.water.step);
+    }
 }
 
 // c, arm; flag
 impl Stored for Change {
+    ghost entry = { λ x. entry.Change x };
+
     ghost kind = { 3 };
 
     ghost count = { 3 };
@@ -201,10 +271,18 @@ impl Stored for Change {
         let flag = arm + 4;
         Change::entry_of(&[signed_at(s, at), signed_at(s, arm), byte_at(s, flag)])
     }
+
+    fn put(self, out: &mut [u8], at: usize) {
+        let at = put_signed(out, at, self.c);
+        let at = put_signed(out, at, self.arm);
+        put_byte(out, at, self.flag);
+    }
 }
 
 // m; p, q, p', q', a, b, n
 impl Stored for Paired {
+    ghost entry = { λ x. entry.Paired x };
+
     ghost kind = { 4 };
 
     ghost count = { 8 };
@@ -247,10 +325,23 @@ impl Stored for Paired {
             word_at(s, n),
         ])
     }
+
+    fn put(self, out: &mut [u8], at: usize) {
+        let at = put_byte(out, at, self.m);
+        let at = put_word(out, at, self.p);
+        let at = put_word(out, at, self.q);
+        let at = put_word(out, at, self.p2);
+        let at = put_word(out, at, self.q2);
+        let at = put_signed(out, at, self.a);
+        let at = put_word(out, at, self.b);
+        put_word(out, at, self.n);
+    }
 }
 
 // lower arm, higher arm
 impl Stored for Seat {
+    ghost entry = { λ x. entry.Seat x };
+
     ghost kind = { 5 };
 
     ghost count = { 2 };
@@ -271,5 +362,10 @@ impl Stored for Seat {
     fn entry_at(s: &[u8], at: usize) -> Entry {
         let higher = at + 4;
         Seat::entry_of(&[signed_at(s, at), signed_at(s, higher)])
+    }
+
+    fn put(self, out: &mut [u8], at: usize) {
+        let at = put_signed(out, at, self.lower);
+        put_signed(out, at, self.higher);
     }
 }

@@ -7,8 +7,7 @@ ghost use Rattle.paper.specs.Numbers.{code_of};
 ghost use Rattle.paper.specs.File.{entry_of};
 ghost use Rattle.values.specs.Places.{Readable, values_in};
 
-use kinds::Stored;
-use layout::FIELDS;
+use kinds::{FIELDS, Stored};
 use paper::{Change, Entry, Kind, Paired, Seat, Sheet, Weighing};
 
 // How many values an entry has, and they in the order of the file.

@@ -1,2 +1,0 @@
--- What the proofs share: one field more.
-pub mod Turns
