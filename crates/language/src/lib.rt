@@ -6,7 +6,7 @@ ghost use Rattle.laws.specs.Equal.{eq_list};
 ghost use Rattle.paper.specs.Numbers.{code_of};
 ghost use Rattle.language.specs.Lines.{kind_named, values_from, candidate, says};
 
-use layout::FIELDS;
+use kinds::FIELDS;
 use paper::{Entry, Kind};
 
 // Room for the text of every entry: a name, and fifteen numbers of at most 21 bytes with a space before each.
