@@ -7,14 +7,12 @@ use native.Mathlib.Decide.{dec_le}
 use native.Mathlib.Nat.{pow-suc, mod-eq_of_lt}
 use native.Mathlib.Omega.{arith}
 use lib.Dec.{leb}
-use lib.IntN.{ℤ, pos, negsuc}
-use lib.Signed.{mag}
 use lib.ListN.{length}
 use borrow.Author.Tests.{le-leb, lt-leb}
-use Rattle.std.specs.Fmt.{signed_decimal, decimal as std-decimal}
+use Rattle.std.specs.Fmt.{decimal as std-decimal}
 use Rattle.std.proofs.lemmas.Fmt.{decimal_by_steps}
-use Rattle.paper.specs.Placard.{hyphen, nought}
-use Rattle.numerals.specs.Numerals.{places_in, places, decimal, numeral}
+use Rattle.paper.specs.Placard.{nought}
+use Rattle.numerals.specs.Numerals.{places_in, places, decimal}
 use Rattle.numerals.proofs.Digits.{length_digits, digits_none, digits_last}
 
 pub length-decimal : (n : ℕ) → length (decimal n) ≡ places n
@@ -105,8 +103,3 @@ same_more n ds h s l = rw (decimal-more n h l, s (omega arith))
 
 pub decimal_same : (n : ℕ) → n < 2 ^ 64 → std-decimal n ≡ decimal n
 decimal_same n h = sym (decimal_by_steps Same (λ n h l. decimal_one n h) same_more n h (omega arith))
-
-pub numeral_same : (x : ℤ) → mag x < 2 ^ 63 → signed_decimal x ≡ numeral x
-unfolding numeral
-numeral_same (pos n) h = decimal_same n (omega arith)
-numeral_same (negsuc n) h = ap (λ ds. hyphen ∷ ds) (decimal_same (suc n) (omega arith))

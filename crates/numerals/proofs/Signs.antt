@@ -1,11 +1,13 @@
--- Numbers on either side of 0: the number of a word with a minus in front and of one without. Assumes nothing.
+-- Numbers on either side of 0: their numerals, and the number of a word with a minus in front and of one without. Assumes nothing.
 use mathlib.Core.Path.{◌≡◌, refl, ap}
 use mathlib.Core.Bool.{Bool, true, false, ◌&&◌, false≢true}
 use mathlib.Core.List.{List, [], ◌∷◌}
 use Prim.Native.Nat.{ℕ, ◌^◌, ◌<◌}
 use native.Mathlib.Omega.{arith}
 use lib.Dec.{eqb}
-use lib.IntN.{pos, neg_ℤ, ◌-ℤ◌}
+use lib.IntN.{ℤ, pos, negsuc, neg_ℤ, nat_abs, ◌-ℤ◌}
+use lib.Signed.{lt_z}
+use borrow.Author.Tests.{ltb-true}
 use lib.ListN.{take, drop}
 use lib.Pointwise.{pointwise}
 use mir.Syntax.{w64}
@@ -13,7 +15,27 @@ use mir.Val.{SFits, to_z}
 use Rattle.laws.specs.Tests.{left}
 use Rattle.laws.specs.Z.{zs, is_bits, is_sub}
 use Rattle.paper.specs.Placard.{hyphen}
-use Rattle.numerals.specs.Numerals.{size_of, most_digits, value_of}
+use Rattle.numerals.specs.Numerals.{decimal, numeral, size_of, most_digits, value_of}
+
+-- ---- numerals: by the sign, and the size; y is what the code holds of x
+
+below : (y : ℤ) → lt_z y (pos 0) ≡ true → numeral y ≡ hyphen ∷ decimal (nat_abs y)
+unfolding numeral
+below (pos n) b = absurd (omega (arith, ltb-true n 0 b))
+below (negsuc n) b = refl
+
+from : (y : ℤ) → lt_z y (pos 0) ≡ false → numeral y ≡ decimal (nat_abs y)
+unfolding numeral
+from (pos n) b = refl
+from (negsuc n) b = cc
+
+pub numeral_below : (x y : ℤ) (n : ℕ) → y ≡ x → lt_z y (pos 0) ≡ true → n ≡ nat_abs y → numeral x ≡ hyphen ∷ decimal n
+numeral_below x y n e b m = rw (← e, m) (below y b)
+
+pub numeral_from : (x y : ℤ) (n : ℕ) → y ≡ x → lt_z y (pos 0) ≡ false → n ≡ nat_abs y → numeral x ≡ decimal n
+numeral_from x y n e b m = rw (← e, m) (from y b)
+
+-- ---- the number of a word
 
 -- one size less another
 pub less_fits : {a b : ℕ} → a < 10 ^ most_digits → b < 10 ^ most_digits → SFits w64 (to_z w64 a -ℤ to_z w64 b)

@@ -1,6 +1,7 @@
 #![tactic(auto)]
 
-// Whole numbers as words of text: written in decimal, and read.
+// Whole numbers as words of text: written in decimal, and read. `itoa` prints the digits, since std's `write!` promises its bytes
+// only where it answers `Ok`, and not that it does.
 ghost use Rattle.std.specs.Prelude.{◌≡◌, ◌++◌, ◌+◌, ◌≤◌, ◌<◌, ◌^◌, length, take};
 ghost use Rattle.arrayvec.specs.ArrayString.{array_string_len};
 ghost use Rattle.numerals.specs.Numerals.{decimal, numeral, digit_of, size_of, most_digits, value_of};
@@ -24,10 +25,14 @@ pub fn put_number<const N: usize>(text: &mut ArrayString<N>, x: i64)
     requires { array_string_len text.old + length (numeral x) ≤ N }
     ensures { text.new.bytes ≡ text.old.bytes ++ numeral x }
 {
-    text.push_str(Buffer::new().format(x));
+    if x < 0 {
+        text.push('-');
+    }
+    put_size(text, x.unsigned_abs());
 }
 
 // What a digit counts.
+#[tactic(auto, unfolding(crate::specs::Numerals::digit_of))]
 fn digit(x: u8) -> u64
     ensures { (result ≡ digit_of x) × (result < 10) }
 {
@@ -45,7 +50,7 @@ fn size_of(s: &[u8]) -> u64
     n
 }
 
-// The number of a word.
+// The number of a word. Not `parse`: a word that is no number has one here too.
 pub fn number_of(s: &[u8]) -> i64
     ensures { result ≡ value_of s.now }
 {
