@@ -7,18 +7,17 @@ use std::io;
 
 // What a line asks, by its letter and what stands behind that up to a space.
 fn done(rt: &impl Print, log: &mut Record, asked: &[u8], calls: &[u8]) -> io::Result<()> {
+    let last = match asked {
+        [b't', spelling @ ..] => return trial::tried(rt, spelling),
+        [b'r', spelling @ ..] => trial::read(*log, spelling),
+        _ => played(*log, calls),
+    };
+    *log = last.log;
     match asked {
-        [b't', spelling @ ..] => trial::tried(rt, spelling),
-        [b'r', spelling @ ..] => trial::read(rt, log, spelling),
-        [b'c', ..] => trial::kept(rt, log, played(*log, calls)),
-        _ => {
-            let last = played(*log, calls);
-            *log = last.log;
-            match asked {
-                [b'w', ..] => written::shown(rt, last.log),
-                _ => written::into(rt, last.log, digits(asked.get(1..).unwrap_or(b"")) as usize),
-            }
-        }
+        [b'r' | b'c', ..] => trial::kept(rt, last),
+        [b'w', ..] => written::shown(rt, last.log),
+        [_, size @ ..] => written::into(rt, last.log, digits(size) as usize),
+        [] => written::into(rt, last.log, 0),
     }
 }
 
@@ -35,12 +34,8 @@ pub fn act(rt: &impl Print, log: &mut Record, line: &[u8]) -> io::Result<()> {
         return Ok(());
     }
     let (_, calls) = head_and_calls(line);
+    let asked = line.split(|x| *x == b' ').next().unwrap_or(line);
     rt.write_all(label(line).unwrap_or(line))?;
-    done(
-        rt,
-        log,
-        line.split(|x| *x == b' ').next().unwrap_or(line),
-        calls,
-    )?;
+    done(rt, log, asked, calls)?;
     rt.write_all(b"\n")
 }

@@ -40,9 +40,8 @@ pub fn tried(rt: &impl Print, digits: &[u8]) -> io::Result<()> {
     }
 }
 
-// What a call answered, and the record that it leaves.
-pub fn kept(rt: &impl Print, log: &mut Record, k: Kept) -> io::Result<()> {
-    *log = k.log;
+// What a call answered.
+pub fn kept(rt: &impl Print, k: Kept) -> io::Result<()> {
     let mut out = [0u8; file::LONGEST];
     let w = file::write(k.log, &mut out);
     let centre = Centre(k.log.centre_of_gravity());
@@ -56,9 +55,7 @@ pub fn kept(rt: &impl Print, log: &mut Record, k: Kept) -> io::Result<()> {
 }
 
 // The bytes that digits of sixteen spell, read into a record.
-pub fn read(rt: &impl Print, log: &mut Record, digits: &[u8]) -> io::Result<()> {
+pub fn read(log: Record, digits: &[u8]) -> Kept {
     let mut room = [0u8; ROOM];
-    let s = spelled(digits, &mut room);
-    let k = file::read(*log, s);
-    kept(rt, log, k)
+    file::read(log, spelled(digits, &mut room))
 }
