@@ -1,15 +1,11 @@
 #![tactic(auto)]
 
 // The placard of a balance and a sheet: a line for each row, into a lent buffer.
-ghost use Rattle.std.specs.Prelude.{◌≡◌, false, List, ◌*◌, ◌≤◌, length};
-ghost use Rattle.std.proofs.Math.Option.{some};
+ghost use Rattle.std.specs.Prelude.{◌≡◌, List, ◌*◌, ◌≤◌, length};
 ghost use Rattle.laws.specs.Written.{written};
-ghost use Rattle.paper.specs.declared.Sheet.{Sheet};
-ghost use Rattle.paper.specs.declared.Seat.{Seat};
 ghost use Rattle.paper.specs.declared.Entry.{Entry};
 ghost use Rattle.paper.specs.Rows.{row_count};
 ghost use Rattle.paper.specs.Placard.{text, line_length, blank_count};
-ghost use Rattle.paper.specs.Refusals.{first_number, sheet_faults, bad_ends};
 ghost use Rattle.paper.specs.Answers.{placard_answer};
 ghost use Rattle.seat.specs.InForce.{found, in_force};
 ghost use Rattle.balance.specs.Balance.{plain, Bounded};
@@ -18,7 +14,7 @@ ghost use Rattle.judge.specs.Standing.{stands_in, plainly, Sound};
 use balance::Balance;
 use group::{LINE, Terms, WATERS};
 use judge::{Standing, Weighed};
-use paper::{Placard, Seat, Sheet};
+use paper::Placard;
 use seat::InForce;
 
 // A line for each row, and how many of them are blank.
