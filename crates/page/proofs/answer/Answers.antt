@@ -80,4 +80,4 @@ returns c es w =
     let put = c.put_rows-blank.ensures in
     let b = weighed_of standing es w c.in_ok-b.b c.in_ok-b.ensures.ok_part in
     let s = found_of standing es w c.in_ok-force.force c.in_ok-force.ensures.ok_part in
-    rw (rows.0, put.0, put.1) (sym (given _ _ _ b _ _ s (omega (arith, rows))))
+    sym (rw (← rows.0, ← put.0, ← put.1) at (given es c.args.out.now _ b _ _ s (omega (arith, rows))))
