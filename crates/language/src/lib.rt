@@ -21,7 +21,7 @@ pub enum Line {
     NotUnderstood,
 }
 
-// The letter at a place, 0 where there is none.
+// The letter at a place, 0 where there is none, as the definition of `candidate` reads it.
 fn letter_at(s: &[u8], i: usize) -> u8
     ensures { result ≡ get_or s.now i 0 }
 {
