@@ -9,6 +9,7 @@
 // that.
 mod report;
 
+use script::calls::each_line;
 use std::io;
 
 // All cases.
@@ -17,5 +18,5 @@ const CASES: usize = 65536;
 fn main(rt: HostRuntime) -> io::Result<()> {
     let mut input = [0u8; CASES];
     let n = lines::read_full(&mut rt.reader(), &mut input)?;
-    report::each(&rt, &input[..n])
+    each_line(&input[..n], |log, line| report::tried(&rt, log, line))
 }

@@ -11,6 +11,7 @@ use native.Mathlib.Omega.{arith}
 use Rattle.std.proofs.Math.ListN.{length}
 use Rattle.std.specs.Borrow.{Bor, MutBor}
 use Rattle.paper.specs.declared.Placard.{Placard}
+use Rattle.paper.specs.declared.Refusal.{Refusal}
 use Rattle.paper.specs.Journal.{Call}
 use Rattle.paper.specs.Answers.{placard_answer}
 use Rattle.front.specs.Front.{placard_for}
@@ -22,7 +23,7 @@ use Rattle.claim.specs.Demand3.{Demand3, demanded}
 use Rattle.claim.specs.LibraryCalls.{Trace, Follows, follows, nothing_left, LibraryDemand3}
 
 module _ (n : ℕ) (calls : List Call) (buffer answers : List ℕ) (f : Follows n calls buffer answers) (lent counts : List ℕ) (number : ℕ) (left counts_left : List ℕ) where
-  demanded_of : (out rest : List ℕ) (a : Placard) → a ≡ (placard_answer (journal_in n calls) out).0 → rest ≡ (placard_answer (journal_in n calls) out).1 → Demand3 (numbers_in n calls) (journal_in n calls) answers out a rest
+  demanded_of : (out rest : List ℕ) (a : Result Placard Refusal) → a ≡ (placard_answer (journal_in n calls) out).0 → rest ≡ (placard_answer (journal_in n calls) out).1 → Demand3 (numbers_in n calls) (journal_in n calls) answers out a rest
   demanded_of out rest a = demanded (numbers_in n calls) (journal_in n calls) (held_accepted buffer (journal_in n calls) f.holds.list) answers out a rest f.numbers
 
   by_counts : (number, left, counts_left) ≡ placard_into (some (journal_in n calls)) lent counts → LibraryDemand3 n calls answers lent counts number left counts_left

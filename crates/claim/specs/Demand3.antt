@@ -10,9 +10,10 @@
 --   Rows      row_count, rear_of, water_of, row, is_step, keeps, breaks_at, every_arm, some_arm, in_range, is_blank
 --   Placard   text_length, blank_count, text, line_in, ReadAs
 --   Refusals  placard_too_long, placard_number
+--   Numbers   number_in, refusal_of                         an answer's number, 0 where it is given, and a number's refusal
 --   Answers   placard_answer, over                                over: bytes written into a buffer, those behind them stay
 -- Assumes nothing.
-use Rattle.std.specs.Prelude.{◌≡◌, true, false, not, ◌&&◌, List, ℕ, ◌≤◌, ◌<◌, eqb, ℤ, length}
+use Rattle.std.specs.Prelude.{◌≡◌, true, false, not, ◌&&◌, List, ℕ, ◌≤◌, ◌<◌, eqb, ℤ, length, Result, Ok, Err}
 use Rattle.std.proofs.Common.{sym, ap, ◌∙◌}
 use Rattle.std.proofs.Math.Option.{some}
 use Rattle.paper.specs.declared.Sheet.{Sheet}
@@ -21,6 +22,8 @@ use Rattle.paper.specs.declared.Row.{Row}
 use Rattle.paper.specs.declared.Row.TheVariants.{Range}
 use Rattle.paper.specs.declared.Entry.{Entry}
 use Rattle.paper.specs.declared.Placard.{Placard}
+use Rattle.paper.specs.declared.Refusal.{Refusal}
+use Rattle.paper.specs.Numbers.{refusal_of, number_in}
 use Rattle.paper.specs.Record.{Balance, balance_of, sheet_of, seat_of, ends_of, weighing_stands, sheet_stands}
 use Rattle.paper.specs.Rows.{row_count, rear_of, water_of, row, is_step, keeps, breaks_at, every_arm, some_arm, in_range, is_blank}
 use Rattle.paper.specs.Placard.{text, text_length, blank_count, line_in, ReadAs}
@@ -31,10 +34,10 @@ use Rattle.line.proofs.Legible.{legible}
 use Rattle.claim.specs.Endings as endings
 use Rattle.claim.specs.Printed as printed
 
-module _ (es : List Entry) (answer : Placard) (left : List ℕ) where
+module _ (es : List Entry) (answer : Result Placard Refusal) (left : List ℕ) where
   -- where the placard is given: what holds of the sheet in force, the ends that its front arm lies between, and the balance
   abbrev pub Given : (Sheet → Seat → Balance → Type 0) → Type 0
-  Given P = (s : Sheet) (b : Balance) → sheet_of es ≡ some s → balance_of es ≡ some b → answer.number ≡ 0 → P s (ends_of s (seat_of es)) b
+  Given P = (s : Sheet) (b : Balance) → sheet_of es ≡ some s → balance_of es ≡ some b → number_in answer ≡ 0 → P s (ends_of s (seat_of es)) b
 
   -- of each of its rows, with its rear load and water, and its line as left in the buffer
   abbrev pub EachLine : (Sheet → Seat → Balance → ℕ → ℕ → List ℕ → Type 0) → Type 0
@@ -46,17 +49,17 @@ module _ (es : List Entry) (answer : Placard) (left : List ℕ) where
 
 -- The demand, a field for each clause: of the numbers that the journal gives the calls and its entries after them, the numbers
 -- that the calls answered, the buffer as lent, the placard call's answer, and the buffer as the call left it.
-pub record Demand3 (numbers : List ℕ) (es : List Entry) (answers lent : List ℕ) (answer : Placard) (left : List ℕ) : Type 0 where
+pub record Demand3 (numbers : List ℕ) (es : List Entry) (answers lent : List ℕ) (answer : Result Placard Refusal) (left : List ℕ) : Type 0 where
   -- each call of the list is accepted, or refused with its number, as the journal has it
   pub each_call : answers ≡ numbers
   -- the answer and the buffer's final bytes, refusals as well, are those worked out from the journal and the buffer as lent
   pub worked_out : (answer ≡ (placard_answer es lent).0) × (left ≡ (placard_answer es lent).1)
   -- in particular: the placard is given exactly when a weighing and a sheet stand and the buffer holds it
-  pub given_exactly : eqb answer.number 0 ≡ (weighing_stands es && sheet_stands es && not (placard_too_long (sheet_of es) (length lent)))
-  -- else it is refused with the journal's number, every other value being 0, and the buffer is as lent
-  pub refused_else : eqb answer.number 0 ≡ false → (answer ≡ record { number = placard_number es (length lent); bytes = 0; rows = 0; blank = 0 }) × (left ≡ lent)
+  pub given_exactly : eqb (number_in answer) 0 ≡ (weighing_stands es && sheet_stands es && not (placard_too_long (sheet_of es) (length lent)))
+  -- else it is refused with the journal's number, says nothing else, and the buffer is as lent
+  pub refused_else : eqb (number_in answer) 0 ≡ false → (answer ≡ Err (refusal_of (placard_number es (length lent)))) × (left ≡ lent)
   -- a given placard's bytes, rows and blank rows are those of the sheet in force, the seat's ends and the balance
-  pub counts : Given es answer left (λ s f b. (answer.bytes ≡ text_length s) × (answer.rows ≡ row_count s) × (answer.blank ≡ blank_count s f b))
+  pub counts : Given es answer left (λ s f b. answer ≡ Ok (record { bytes = text_length s; rows = row_count s; blank = blank_count s f b }))
   -- the buffer as left, byte for byte: a line for each row, and what stood behind them
   pub buffer : Given es answer left (λ s f b. left ≡ over (text s f b) lent)
   -- its i-th 36 bytes are the line of the i-th row's loads and row, and can be read as them
@@ -72,14 +75,14 @@ pub record Demand3 (numbers : List ℕ) (es : List Entry) (answers lent : List �
 
 -- ---- the proof: all of it follows from the answer and the buffer that the definitions work out
 
-module _ (es : List Entry) (ok : accepted es ≡ true) (lent : List ℕ) (a : Placard) (left : List ℕ) (says : endings.Answered es lent a left) where
+module _ (es : List Entry) (ok : accepted es ≡ true) (lent : List ℕ) (a : Result Placard Refusal) (left : List ℕ) (says : endings.Answered es lent a left) where
   line : EachLine es a left (λ s f b r w bytes. ReadAs bytes r w (row s f b r w))
   line s b e w z i h = printed.line_read es ok lent left s (ends_of s (seat_of es)) b e (says.whole s b e w z).1 i h
 
   read : EachReading es a left (λ s f b r w rear water x. (rear ≡ r) × (water ≡ w) × (x ≡ row s f b r w))
   read s b e w z i h rear water x l = legible l (line s b e w z i h)
 
-pub demanded : (numbers : List ℕ) (es : List Entry) → accepted es ≡ true → (answers lent : List ℕ) (a : Placard) (left : List ℕ) → answers ≡ numbers → a ≡ (placard_answer es lent).0 → left ≡ (placard_answer es lent).1 → Demand3 numbers es answers lent a left
+pub demanded : (numbers : List ℕ) (es : List Entry) → accepted es ≡ true → (answers lent : List ℕ) (a : Result Placard Refusal) (left : List ℕ) → answers ≡ numbers → a ≡ (placard_answer es lent).0 → left ≡ (placard_answer es lent).1 → Demand3 numbers es answers lent a left
 demanded numbers es ok answers lent a left n first second =
     let says = endings.says es lent a left first second in
     record {
@@ -87,10 +90,7 @@ demanded numbers es ok answers lent a left n first second =
       worked_out = (first, second);
       given_exactly = says.exactly;
       refused_else = says.else;
-      counts =
-          λ s b e w z.
-          let whole = (says.whole s b e w z).0 in
-          (ap (λ (x : Placard). x.bytes) whole, ap (λ (x : Placard). x.rows) whole, ap (λ (x : Placard). x.blank) whole);
+      counts = λ s b e w z. (says.whole s b e w z).0;
       buffer = λ s b e w z. (says.whole s b e w z).1;
       each_line = line es ok lent a left says;
       only_reading = read es ok lent a left says;
@@ -101,7 +101,7 @@ demanded numbers es ok answers lent a left n first second =
 
 -- ---- what follows for the engraver: no range that is read off a given placard begins at 0, whatever the sheet's least load
 
-pub none_from_nought : {numbers : List ℕ} {es : List Entry} {answers lent : List ℕ} {a : Placard} {left : List ℕ} → Demand3 numbers es answers lent a left
+pub none_from_nought : {numbers : List ℕ} {es : List Entry} {answers lent : List ℕ} {a : Result Placard Refusal} {left : List ℕ} → Demand3 numbers es answers lent a left
     → EachReading es a left (λ s f b r w rear water x. (lo hi : ℕ) → x ≡ Range lo hi → 1 ≤ lo)
 none_from_nought {es = es} d s b e w z i h rear water x l lo hi k =
     range_occupied s (ends_of s (seat_of es)) b (rear_of s i) (water_of s i) lo hi (sym (d.only_reading s b e w z i h rear water x l).2 ∙ k)

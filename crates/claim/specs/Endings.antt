@@ -1,31 +1,34 @@
 -- How a placard call ends: given where a weighing and a sheet stand and the buffer holds it, else refused; by what stands.
 -- Assumes nothing.
-use Rattle.std.specs.Prelude.{◌≡◌, refl, Bool, true, false, not, ◌&&◌, List, ℕ, ◌<◌, eqb}
+use Rattle.std.specs.Prelude.{◌≡◌, refl, Bool, true, false, not, ◌&&◌, List, ℕ, ◌<◌, eqb, Result, Ok, Err}
 use Rattle.std.proofs.Common.{sym, ap, ◌∙◌, true≢false}
 use Rattle.std.proofs.Math.Option.{Option, none, some, map, some-injective}
 use Rattle.std.proofs.Math.Decide.{dec_le}
 use native.Mathlib.Omega.{arith}
 use Rattle.std.proofs.Math.ListN.{length}
-use borrow.Author.Tests.{lt-ltb, le-ltb, eq-eqb, ne_eqb}
+use borrow.Author.Tests.{lt-ltb, le-ltb, eq-eqb}
 use Rattle.paper.specs.declared.Sheet.{Sheet}
 use Rattle.paper.specs.declared.Change.{Change}
 use Rattle.paper.specs.declared.Entry.{Entry}
 use Rattle.paper.specs.declared.Placard.{Placard}
+use Rattle.paper.specs.declared.Refusal.{Refusal}
+use Rattle.paper.specs.Numbers.{refusal_of, number_in}
+use Rattle.paper.proofs.Numbers.{not_0}
 use Rattle.paper.specs.Record.{Balance, Readings, weighed, changed_by, last_weighing, balance_of, sheet_of, seat_of, ends_of, is_none, weighing_stands, sheet_stands}
 use Rattle.paper.specs.Rows.{row_count}
 use Rattle.paper.specs.Placard.{text, text_length, blank_count}
 use Rattle.paper.specs.Refusals.{first_number, placard_too_long, placard_number}
-use Rattle.paper.specs.Answers.{over, placard_answer}
-use Rattle.page.proofs.Answers.{refusal, unweighed, no_sheet, too_short, given}
+use Rattle.paper.specs.Answers.{over, placard_given, placard_refused, placard_answer}
+use Rattle.page.proofs.Answers.{unweighed, no_sheet, too_short, given}
 
 -- a weighing and a sheet stand, and a buffer of n bytes holds the placard
 abbrev pub stands : List Entry → ℕ → Bool
 stands es n = weighing_stands es && sheet_stands es && not (placard_too_long (sheet_of es) n)
 
 pub data Ending (es : List Entry) (xs : List ℕ) : Type 0 where
-  refused : (n : ℕ) → 0 < n → placard_number es (length xs) ≡ n → stands es (length xs) ≡ false → placard_answer es xs ≡ (refusal n, xs) → Ending es xs
+  refused : (n : ℕ) → 0 < n → placard_number es (length xs) ≡ n → stands es (length xs) ≡ false → placard_answer es xs ≡ placard_refused n xs → Ending es xs
   printed : (s : Sheet) (b : Balance) → sheet_of es ≡ some s → balance_of es ≡ some b → stands es (length xs) ≡ true
-      → placard_answer es xs ≡ (record { number = 0; bytes = text_length s; rows = row_count s; blank = blank_count s (ends_of s (seat_of es)) b }, over (text s (ends_of s (seat_of es)) b) xs) → Ending es xs
+      → placard_answer es xs ≡ (Ok (placard_given s (ends_of s (seat_of es)) b), over (text s (ends_of s (seat_of es)) b) xs) → Ending es xs
 
 -- ---- what stands, by the balance and the sheet
 
@@ -80,26 +83,27 @@ ending es xs = by_balance es xs (balance_of es) refl
 -- ---- what the answer says then
 
 -- of the answer and of the buffer as the call leaves it
-pub record Answered (es : List Entry) (xs : List ℕ) (a : Placard) (ys : List ℕ) : Type 0 where
-  pub exactly : eqb a.number 0 ≡ stands es (length xs)
-  pub else : eqb a.number 0 ≡ false → (a ≡ refusal (placard_number es (length xs))) × (ys ≡ xs)
-  pub whole : (s : Sheet) (b : Balance) → sheet_of es ≡ some s → balance_of es ≡ some b → a.number ≡ 0 → (a ≡ record { number = 0; bytes = text_length s; rows = row_count s; blank = blank_count s (ends_of s (seat_of es)) b }) × (ys ≡ over (text s (ends_of s (seat_of es)) b) xs)
+pub record Answered (es : List Entry) (xs : List ℕ) (a : Result Placard Refusal) (ys : List ℕ) : Type 0 where
+  pub exactly : eqb (number_in a) 0 ≡ stands es (length xs)
+  pub else : eqb (number_in a) 0 ≡ false → (a ≡ Err (refusal_of (placard_number es (length xs)))) × (ys ≡ xs)
+  pub whole : (s : Sheet) (b : Balance) → sheet_of es ≡ some s → balance_of es ≡ some b → number_in a ≡ 0 → (a ≡ Ok (record { bytes = text_length s; rows = row_count s; blank = blank_count s (ends_of s (seat_of es)) b })) × (ys ≡ over (text s (ends_of s (seat_of es)) b) xs)
 
-pub says : (es : List Entry) (xs : List ℕ) (a : Placard) (ys : List ℕ) → a ≡ (placard_answer es xs).0 → ys ≡ (placard_answer es xs).1 → Answered es xs a ys
+pub says : (es : List Entry) (xs : List ℕ) (a : Result Placard Refusal) (ys : List ℕ) → a ≡ (placard_answer es xs).0 → ys ≡ (placard_answer es xs).1 → Answered es xs a ys
+unfolding placard_refused placard_given
 says es xs a ys e f = by (ending es xs)
   where
     by : Ending es xs → Answered es xs a ys
     by (refused n h number s q) =
-        let answer : a ≡ refusal n = e ∙ ap (λ p. p.0) q in
-        let no : eqb a.number 0 ≡ false = ap (λ (b : Placard). eqb b.number 0) answer ∙ ne_eqb n 0 (λ z. omega arith) in
+        let answer : a ≡ Err (refusal_of n) = e ∙ ap (λ p. p.0) q in
+        let no : eqb (number_in a) 0 ≡ false = ap (λ (b : Result Placard Refusal). eqb (number_in b) 0) answer ∙ not_0 (refusal_of n) in
         record {
           exactly = no ∙ sym s;
-          else = λ k. (answer ∙ ap refusal (sym number), f ∙ ap (λ p. p.1) q);
-          whole = λ t b u w k. absurd (true≢false (sym (eq-eqb a.number 0 k) ∙ no));
+          else = λ k. (answer ∙ ap (λ (m : ℕ). Err (refusal_of m)) (sym number), f ∙ ap (λ p. p.1) q);
+          whole = λ t b u w k. absurd (true≢false (sym (eq-eqb (number_in a) 0 k) ∙ no));
         }
     by (printed t b u w s q) =
         let answer = e ∙ ap (λ p. p.0) q in
-        let yes : eqb a.number 0 ≡ true = ap (λ (c : Placard). eqb c.number 0) answer in
+        let yes : eqb (number_in a) 0 ≡ true = ap (λ (c : Result Placard Refusal). eqb (number_in c) 0) answer in
         record {
           exactly = yes ∙ sym s;
           else = λ k. absurd (true≢false (sym yes ∙ k));

@@ -21,6 +21,8 @@ use Rattle.paper.specs.declared.Sheet.{Sheet}
 use Rattle.paper.specs.declared.Change.{Change}
 use Rattle.paper.specs.declared.Seat.{Seat}
 use Rattle.paper.specs.declared.Placard.{Placard}
+use Rattle.paper.specs.declared.Refusal.{Refusal}
+use Rattle.paper.specs.Numbers.{number_in as answer_number}
 use Rattle.paper.specs.declared.Entry.{Entry}
 use Rattle.paper.specs.Journal as journal
 use Rattle.paper.specs.Journal.{Call, journal_by, numbers_by}
@@ -147,8 +149,8 @@ nothing_left es = by (ending es [])
 -- demand holds of the placard's buffer, and the counts are those of the answer that it speaks of; without it the call is as one
 -- with no byte for the placard, and both buffers are as lent.
 pub record LibraryDemand3 (n : ℕ) (calls : List Call) (answers lent counts : List ℕ) (number : ℕ) (left counts_left : List ℕ) : Type 0 where
-  pub answer : Placard
-  pub its_number : number ≡ answer.number
+  pub answer : Result Placard Refusal
+  pub its_number : number ≡ answer_number answer
   pub with-room : answer_length ≤ length counts → Demand3 (numbers_in n calls) (journal_in n calls) answers lent answer left × (counts_left ≡ counts_over answer counts)
   pub without : length counts < answer_length → Demand3 (numbers_in n calls) (journal_in n calls) answers [] answer [] × (left ≡ lent) × (counts_left ≡ counts)
 

@@ -1,15 +1,17 @@
 // One line of the cases: an action on the record that is lent in a part of a buffer, and its answer.
 use language::Line;
-use lines::{text, unsigned};
+use lines::{lent, sum};
 use nodhulika::{
     nodhulika_centre, nodhulika_change, nodhulika_check, nodhulika_fresh, nodhulika_placard,
     nodhulika_read, nodhulika_seat, nodhulika_sheet, nodhulika_undo, nodhulika_weigh,
     nodhulika_weigh_paired,
 };
 use paper::Entry;
-use script::texts::{byte_at, spelled};
+use script::texts::spelled;
 use std::io;
-use words::number_at;
+
+// The longest buffer of a record.
+const ROOM: usize = 4096;
 
 // The longest file and the longest placard's buffer that a case gives.
 const FILE: usize = 4096;
@@ -21,118 +23,19 @@ const ANSWER: usize = 24;
 
 // An answer behind the others of its case.
 fn answer(rt: &impl Print, n: u64) -> io::Result<()> {
-    text(rt, b" ")?;
-    unsigned(rt, n)
+    print!(rt; " {n}")
 }
 
-// The number in a line behind its first `from` bytes, at most `most`.
+// What stands in a line behind its first bytes.
+fn behind(line: &[u8], from: usize) -> &[u8] {
+    line.get(from..).unwrap_or(b"")
+}
+
+// The number that stands there, at most `most`; one below 0 is 0.
 fn number(line: &[u8], from: usize, most: usize) -> usize {
-    if line.len() < from {
-        return 0;
-    }
-    let n = numerals::number_of(&line[from..]);
-    if n < 0 {
-        return 0;
-    }
-    let size = laws::size(n) as usize;
-    if most < size { most } else { size }
-}
-
-// The first n bytes of a buffer, or all of it.
-fn lent(buffer: &mut [u8], n: usize) -> &mut [u8] {
-    if buffer.len() < n {
-        return buffer;
-    }
-    &mut buffer[..n]
-}
-
-// Every byte is AA.
-fn fill(buffer: &mut [u8]) {
-    buffer.fill(0xAA);
-}
-
-// `Fresh N`: a new case.
-fn fresh(rt: &impl Print, line: &[u8], buffer: &mut [u8]) -> io::Result<usize> {
-    let n = number(line, 6, buffer.len());
-    fill(buffer);
-    unsigned(rt, nodhulika_fresh(lent(buffer, n)))?;
-    Ok(n)
-}
-
-// `Read HEX`.
-fn read(line: &[u8], buffer: &mut [u8]) -> u64 {
-    let mut file = [0u8; FILE];
-    if line.len() < 5 {
-        return nodhulika_read(buffer, b"");
-    }
-    let n = spelled(&line[5..], &mut file);
-    nodhulika_read(buffer, lines::between(&file, 0, n))
-}
-
-// `Lent HEX`: these bytes at the front of the buffer, as they are. No call, and no answer.
-fn put(line: &[u8], buffer: &mut [u8]) {
-    if line.len() < 5 {
-        return;
-    }
-    spelled(&line[5..], buffer);
-}
-
-// `Check`: the number, and the sum of the whole buffer.
-fn check(rt: &impl Print, buffer: &[u8]) -> io::Result<()> {
-    answer(rt, nodhulika_check(buffer))?;
-    answer(rt, lines::sum(buffer))
-}
-
-// A number of an answer, as it stands in its bytes.
-fn word(bytes: &[u8], from: usize) -> u64 {
-    if bytes.len() < 8 {
-        return 0;
-    }
-    if bytes.len() - 8 < from {
-        return 0;
-    }
-    number_at(bytes, from, 4) as u64 * 4_294_967_296 + number_at(bytes, from + 4, 4) as u64
-}
-
-// A number below 0 has its highest bit set.
-fn signed(rt: &impl Print, n: u64) -> io::Result<()> {
-    text(rt, b" ")?;
-    if n < 9_223_372_036_854_775_808 {
-        unsigned(rt, n)
-    } else {
-        text(rt, b"-")?;
-        unsigned(rt, 18_446_744_073_709_551_615 - n + 1)
-    }
-}
-
-// `Centre`: the number, and total, moment and centre where it is 0.
-fn centre(rt: &impl Print, buffer: &[u8]) -> io::Result<()> {
-    let mut numbers = [0u8; ANSWER];
-    let n = nodhulika_centre(buffer, &mut numbers);
-    answer(rt, n)?;
-    if n == 0 {
-        answer(rt, word(&numbers, 0))?;
-        signed(rt, word(&numbers, 8))?;
-        signed(rt, word(&numbers, 16))?;
-    }
-    Ok(())
-}
-
-// `Placard N`, which ends a case: the number, bytes, rows and blank rows where it is 0, and the sum of the whole placard's
-// buffer.
-fn placard(rt: &impl Print, line: &[u8], buffer: &[u8]) -> io::Result<()> {
-    let mut plate = [0xAAu8; PLACARD];
-    let mut counts = [0u8; ANSWER];
-    let out = lent(&mut plate, number(line, 8, PLACARD));
-    let n = nodhulika_placard(buffer, out, &mut counts);
-    answer(rt, n)?;
-    if n == 0 {
-        answer(rt, word(&counts, 0))?;
-        answer(rt, word(&counts, 8))?;
-        answer(rt, word(&counts, 16))?;
-    }
-    answer(rt, lines::sum(out))?;
-    text(rt, b"\n")
+    usize::try_from(numerals::number_of(behind(line, from)))
+        .unwrap_or(0)
+        .min(most)
 }
 
 // A weighing, plain or paired, a data sheet, a change or a seat entry.
@@ -165,48 +68,95 @@ fn enter(buffer: &mut [u8], e: Entry) -> u64 {
     }
 }
 
-// A call, as a line of a logbook.
-fn call(rt: &impl Print, line: &[u8], buffer: &mut [u8]) -> io::Result<()> {
-    match language::read_line(line) {
-        Line::Entry(e) => answer(rt, enter(buffer, e)),
-        Line::Undo => answer(rt, nodhulika_undo(buffer)),
-        Line::Passed => text(rt, b" passed"),
-        Line::NotUnderstood => text(rt, b" not understood"),
-    }
+// `Check`: the number, and the sum of the whole buffer.
+fn check(rt: &impl Print, record: &[u8]) -> io::Result<()> {
+    print!(rt; " {} {}", nodhulika_check(record), sum(record))
 }
 
-// `Check` or `Centre`.
-fn asked(rt: &impl Print, second: u8, buffer: &[u8]) -> io::Result<()> {
-    if second == b'h' {
-        check(rt, buffer)
-    } else {
-        centre(rt, buffer)
+// `Centre`: the number, and total, moment and centre where it is 0.
+fn centre(rt: &impl Print, record: &[u8]) -> io::Result<()> {
+    let mut numbers = [0u8; ANSWER];
+    let n = nodhulika_centre(record, &mut numbers);
+    answer(rt, n)?;
+    if let (0, ([total, moment, centre], _)) = (n, numbers.as_chunks::<8>()) {
+        let total = u64::from_be_bytes(*total);
+        let moment = i64::from_be_bytes(*moment);
+        let centre = i64::from_be_bytes(*centre);
+        print!(rt; " {total} {moment} {centre}")?;
     }
+    Ok(())
 }
 
-// The action of a line by its first letters.
-fn done(rt: &impl Print, line: &[u8], buffer: &mut [u8]) -> io::Result<()> {
-    let first = byte_at(line, 0);
-    match first {
-        b'R' => answer(rt, read(line, buffer)),
-        b'L' => {
-            put(line, buffer);
-            Ok(())
+// `Placard N`, which ends a case: the number, bytes, rows and blank rows where it is 0, and the sum of the whole placard's
+// buffer.
+fn placard(rt: &impl Print, line: &[u8], record: &[u8]) -> io::Result<()> {
+    let mut plate = [0xAAu8; PLACARD];
+    let mut counts = [0u8; ANSWER];
+    let out = lent(&mut plate, number(line, 8, PLACARD));
+    let n = nodhulika_placard(record, out, &mut counts);
+    answer(rt, n)?;
+    if n == 0 {
+        for count in counts.as_chunks::<8>().0 {
+            answer(rt, u64::from_be_bytes(*count))?;
         }
-        b'P' => placard(rt, line, buffer),
-        b'C' => asked(rt, byte_at(line, 1), buffer),
-        _ => call(rt, line, buffer),
+    }
+    println!(rt; " {}", sum(out))
+}
+
+// `Read HEX`.
+fn read(line: &[u8], record: &mut [u8]) -> u64 {
+    let mut file = [0u8; FILE];
+    nodhulika_read(record, spelled(behind(line, 5), &mut file))
+}
+
+// A call, as a line of a logbook.
+fn call(rt: &impl Print, line: &[u8], record: &mut [u8]) -> io::Result<()> {
+    match language::read_line(line) {
+        Line::Entry(e) => answer(rt, enter(record, e)),
+        Line::Undo => answer(rt, nodhulika_undo(record)),
+        Line::Passed => print!(rt; " passed"),
+        Line::NotUnderstood => print!(rt; " not understood"),
     }
 }
 
-// The action of a line on the first `room` bytes. The answer is how many bytes the next one gets.
-pub fn act(rt: &impl Print, line: &[u8], buffer: &mut [u8], room: usize) -> io::Result<usize> {
-    if line.len() < 2 {
-        return Ok(room);
+// A case: the buffer, and how many of its first bytes the record is lent.
+#[derive(Drop)]
+pub struct Case {
+    buffer: [u8; ROOM],
+    room: usize,
+}
+
+impl Case {
+    pub fn new() -> Case {
+        Case {
+            buffer: [0; ROOM],
+            room: 0,
+        }
     }
-    if line[0] == b'F' {
-        return fresh(rt, line, buffer);
+
+    // `Fresh N`: a new case, in a buffer whose every byte is AA.
+    fn fresh(&mut self, rt: &impl Print, line: &[u8]) -> io::Result<()> {
+        self.room = number(line, 6, ROOM);
+        self.buffer = [0xAA; ROOM];
+        let n = nodhulika_fresh(lent(&mut self.buffer, self.room));
+        print!(rt; "{n}")
     }
-    done(rt, line, lent(buffer, room))?;
-    Ok(room)
+
+    // The action of a line by its first letters. `Lent HEX` puts these bytes at the front of the buffer, as they are.
+    pub fn act(&mut self, rt: &impl Print, line: &[u8]) -> io::Result<()> {
+        let record = lent(&mut self.buffer, self.room);
+        match line {
+            [] | [_] => Ok(()),
+            [b'F', ..] => self.fresh(rt, line),
+            [b'R', ..] => answer(rt, read(line, record)),
+            [b'L', ..] => {
+                spelled(behind(line, 5), record);
+                Ok(())
+            }
+            [b'P', ..] => placard(rt, line, record),
+            [b'C', b'h', ..] => check(rt, record),
+            [b'C', ..] => centre(rt, record),
+            _ => call(rt, line, record),
+        }
+    }
 }

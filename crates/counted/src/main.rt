@@ -43,15 +43,11 @@ fn filled() -> Record {
 }
 
 // So many weighings, each on the record as it was.
-fn accepted(r: Record, calls: usize) -> u64 {
-    let mut n = 0u64;
-    for i in 0..calls {
-        let k = r.weigh(weighing(i as u64));
-        if k.number == 0 && k.log.count == ENTRIES + 1 {
-            n = n.wrapping_add(1);
-        }
-    }
-    n
+fn accepted(r: Record, calls: usize) -> usize {
+    (0..calls)
+        .map(|q| r.weigh(weighing(q as u64)))
+        .filter(|k| k.number == 0 && k.log.count == ENTRIES + 1)
+        .count()
 }
 
 fn main(rt: HostRuntime) -> io::Result<()> {

@@ -1,33 +1,24 @@
 -- What is found at a place: the byte there is the kind, and its row says how much must follow. Assumes nothing.
 use mathlib.Core.Path.{◌≡◌, refl, sym, ap, ◌∙◌}
-use mathlib.Core.List.{List, [], ◌∷◌, ◌++◌}
+use mathlib.Core.List.{List, ◌∷◌}
 use mathlib.Core.Option.{none, some, bind}
 use Rattle.std.specs.Prelude.{Option, Some, None}
 use Prim.Native.Nat.{ℕ, ◌+◌, ◌-◌, ◌≤◌, ◌<◌}
 use native.Mathlib.Decide.{dec_le}
 use native.Mathlib.Numerals.{add-one}
 use native.Mathlib.Omega.{arith}
-use lib.ListN.{length, get_or, drop, replicate, length-drop, drop_of_length-le}
+use lib.ListN.{length, get_or, drop, length-drop, drop_of_length-le}
 use lib.Seq.{drop-cons}
-use borrow.Author.Tests.{le-leb, lt-leb}
+use borrow.Author.Tests.{le-leb, lt-leb, ne_eqb}
 use Rattle.paper.specs.declared.Entry.{Entry}
 use Rattle.paper.specs.declared.Kind.{Kind}
 use Rattle.paper.specs.declared.Kind.TheVariants as kind
 use Rattle.paper.specs.Numbers.{code_of}
-use Rattle.paper.specs.File.{Field, field_value, layout_of, the_fields, take_entry}
-use Rattle.format.specs.Fields.{widths, total, numbers_from, values_by, take_fields_lem, numbers-length, widths-length}
+use Rattle.paper.specs.File.{Field, layout_of, the_fields, entry_of, take_entry}
+use Rattle.format.specs.Fields.{widths, total, numbers_from, values_by, take_fields_lem}
 use Rattle.format.specs.Rows.{fields_at}
-use Rattle.layout.specs.Table.{padded, entry_with}
-use Rattle.layout.proofs.Rows.{no_row}
-use Rattle.fields.specs.Words.{words_at}
+use Rattle.kinds.specs.Values.{values_from}
 use Rattle.entries.specs.Walking.{fields_walk, walk_at}
-
--- only as many numbers count as there are fields
-values_front : (fs : List Field) (ns ms : List ℕ) → length ns ≡ length fs → values_by fs (ns ++ ms) ≡ values_by fs ns
-unfolding values_by
-values_front [] ns ms e = refl
-values_front (f ∷ fs) [] ms e = absurd (omega arith)
-values_front (f ∷ fs) (n ∷ ns) ms e = ap (λ vs. field_value f n ∷ vs) (values_front fs ns ms (omega arith))
 
 pub at_end : (s : List ℕ) (at : ℕ) → length s ≤ at → None ≡ walk_at s at
 unfolding walk_at take_entry
@@ -53,18 +44,16 @@ module _ (s : List ℕ) (at : ℕ) (h : at < length s) where
     unfolding walk_at take_entry bind
     cut_off k = rw (here, e, take_fields_lem fs behind, lt-leb (total (widths fs)) (length behind) (omega (arith, left_over)))
 
-    entry_here : total (widths fs) ≤ length s - (at + 1) → Some (entry_with (get_or s at 0) (padded (numbers_from (widths fs) behind)), at + 1 + total (widths fs)) ≡ walk_at s at
-    unfolding walk_at take_entry bind entry_with
+    entry_here : total (widths fs) ≤ length s - (at + 1) → Some (entry_of (get_or s at 0) (values_by fs (numbers_from (widths fs) behind)), at + 1 + total (widths fs)) ≡ walk_at s at
+    unfolding walk_at take_entry bind
     entry_here k =
         let n = total (widths fs) in
-        let ns = numbers_from (widths fs) behind in
         let place : length s - length (drop n behind) ≡ at + 1 + n = omega (arith, length-drop n behind, left_over) in
-        let values = values_front fs ns (replicate (15 - length ns) 0) (numbers-length (widths fs) behind ∙ widths-length fs) in
-        rw (here, e, take_fields_lem fs behind, le-leb n (length behind) (omega (arith, left_over)), place, values)
+        rw (here, e, take_fields_lem fs behind, le-leb n (length behind) (omega (arith, left_over)), place)
 
     -- by how many bytes there are
     pub kind_here : fields_walk (get_or s at 0) s (at + 1) ≡ walk_at s at
-    unfolding fields_walk words_at
+    unfolding fields_walk values_from
     kind_here =
         let n = total (widths fs) in
         let fields : fields_at (get_or s at 0) ≡ fs = ap the_fields e in
@@ -86,6 +75,10 @@ pub kind_got : (s : List ℕ) (at : ℕ) (k : Kind) (x : Option (Entry × ℕ)) 
 kind_got s at k x h e w =
     w ∙ ap (λ (j : ℕ). fields_walk j s (at + 1)) e ∙ kind_here s at h (fields_at (code_of k)) (ap layout_of (sym e) ∙ kind_row k)
 
+no_row : (k : ℕ) → (k ≡ 1 → ⊥) → (k ≡ 2 → ⊥) → (k ≡ 3 → ⊥) → (k ≡ 4 → ⊥) → (k ≡ 5 → ⊥) → layout_of k ≡ none
+unfolding layout_of
+no_row k a b c d e = rw (ne_eqb k 1 a, ne_eqb k 2 b, ne_eqb k 3 c, ne_eqb k 4 d, ne_eqb k 5 e)
+
 pub no_kind_got : (s : List ℕ) (at : ℕ) → at < length s → ((k : Kind) → code_of k ≡ get_or s at 0 → ⊥) → None ≡ walk_at s at
 no_kind_got s at h f =
     let none_is = λ (k : Kind) (e : get_or s at 0 ≡ code_of k). f k (sym e) in
@@ -97,6 +90,6 @@ module _ (k : ℕ) (s : List ℕ) (from n : ℕ) (e : n ≡ total (widths (field
   unfolding fields_walk
   fields_short h = rw (← e, lt-leb n (length s - from) h)
 
-  pub fields_got : n ≤ length s - from → (ns : List ℕ) (x : Entry) → ns ≡ words_at k (drop from s) → x ≡ entry_with k ns → Some (x, from + n) ≡ fields_walk k s from
+  pub fields_got : n ≤ length s - from → (x : Entry) → x ≡ entry_of k (values_from k (drop from s)) → Some (x, from + n) ≡ fields_walk k s from
   unfolding fields_walk
-  fields_got h ns x w f = rw (← e, le-leb n (length s - from) h, f, w)
+  fields_got h x f = rw (← e, le-leb n (length s - from) h, f)

@@ -2,17 +2,16 @@
 use Rattle.std.specs.Prelude.{cond, List, ℕ, ◌+◌, ◌-◌, leb, length, drop, Option, Some, None}
 use Rattle.std.proofs.Math.Option.{Option as Taken, none, some}
 use Rattle.paper.specs.declared.Entry.{Entry}
-use Rattle.paper.specs.File.{take_entry}
+use Rattle.paper.specs.File.{entry_of, take_entry}
 use Rattle.format.specs.Fields.{widths, total}
 use Rattle.format.specs.Rows.{fields_at}
-use Rattle.layout.specs.Table.{entry_with}
-use Rattle.fields.specs.Words.{words_at}
+use Rattle.kinds.specs.Values.{values_from}
 
 -- an entry of a kind whose fields begin at a place, and the place behind them; none where there are fewer bytes
 unfoldable pub fields_walk : ℕ → List ℕ → ℕ → Option (Entry × ℕ)
 fields_walk k s from =
     cond (leb (total (widths (fields_at k))) (length s - from))
-    (Some (entry_with k (words_at k (drop from s)), from + total (widths (fields_at k))))
+    (Some (entry_of k (values_from k (drop from s)), from + total (widths (fields_at k))))
     None
 
 -- an entry with the place where the bytes behind it begin, of n bytes in all

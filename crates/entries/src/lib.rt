@@ -1,102 +1,62 @@
 #![tactic(auto)]
 
 // One entry's bytes: written at a place of a buffer, and read at a place of a slice.
-ghost use Rattle.std.specs.Prelude.{◌≡◌, ◌+◌, ◌≤◌, length};
+ghost use Rattle.std.specs.Prelude.{◌≡◌, ◌∷◌, ◌+◌, ◌≤◌, length};
 ghost use Rattle.laws.specs.Written.{written};
-ghost use Rattle.paper.specs.File.{entry_bytes};
+ghost use Rattle.paper.specs.Numbers.{code_of};
+ghost use Rattle.paper.specs.File.{values_of, fields_bytes, entry_bytes};
+ghost use Rattle.format.specs.Rows.{fields_at};
 ghost use Rattle.entries.specs.Walking.{fields_walk, walk_at};
 
-use paper::{Entry, Kind};
+use kinds::Stored;
+use paper::{Change, Entry, Kind, Paired, Seat, Sheet, Weighing};
+
+// A kind, and behind it the fields of an entry. The answer is the place behind them.
+fn put_stored<T: Stored>(out: &mut [u8], at: usize, kind: Kind, x: T) -> usize
+    requires { at + 1 + T.LENGTH ≤ length out.old }
+    ensures { (result ≡ at + 1 + T.LENGTH) × (out.new ≡ written out.old at (code_of kind ∷ fields_bytes (fields_at T.kind) (values_of (T.entry x)))) }
+{
+    out[at] = kind as u8;
+    x.put(out, at + 1);
+    at + 1 + T::LENGTH
+}
 
 // An entry: its kind, and its fields. The answer is the place behind it.
 pub fn put_entry(out: &mut [u8], at: usize, e: Entry) -> usize
     requires { at + length (entry_bytes e) ≤ length out.old }
     ensures { (result ≡ at + length (entry_bytes e)) × (out.new ≡ written out.old at (entry_bytes e)) }
 {
-    let kind = e.kind();
-    let row = layout::layout_of(kind);
-    let from = at + 1;
-    out[at] = kind as u8;
-    fields::put_fields(out, from, row, layout::words_of(e));
-    from + row.length
+    match e {
+        Entry::Weighing(w) => put_stored(out, at, Kind::Weighing, w),
+        Entry::Sheet(s) => put_stored(out, at, Kind::Sheet, s),
+        Entry::Change(x) => put_stored(out, at, Kind::Change, x),
+        Entry::Paired(x) => put_stored(out, at, Kind::Paired, x),
+        Entry::Seat(f) => put_stored(out, at, Kind::Seat, f),
+    }
 }
 
 // How many bytes an entry takes.
 pub fn length_of(e: Entry) -> usize
     ensures { result ≡ length (entry_bytes e) }
 {
-    let row = layout::layout_of(e.kind());
-    row.length + 1
+    match e {
+        Entry::Weighing(_) => 1 + Weighing::LENGTH,
+        Entry::Sheet(_) => 1 + Sheet::LENGTH,
+        Entry::Change(_) => 1 + Change::LENGTH,
+        Entry::Paired(_) => 1 + Paired::LENGTH,
+        Entry::Seat(_) => 1 + Seat::LENGTH,
+    }
 }
 
-// What stands behind the kind of a weighing: its fields, where there are bytes enough.
-fn weighing_from(s: &[u8], from: usize) -> Option<(Entry, usize)>
+// What stands behind a kind: its fields, where there are bytes enough.
+fn entry_from<T: Stored>(s: &[u8], from: usize) -> Option<(Entry, usize)>
     requires { from ≤ length s.now }
-    ensures { result ≡ fields_walk 1 s.now from }
+    ensures { result ≡ fields_walk T.kind s.now from }
 {
-    if s.len() - from < 21 {
+    if s.len() - from < T::LENGTH {
         return None;
     }
-    Some((
-        unpack::entry_of(Kind::Weighing, fields::weighing_at(s, from)),
-        from + 21,
-    ))
-}
-
-// Behind the kind of a sheet.
-fn sheet_from(s: &[u8], from: usize) -> Option<(Entry, usize)>
-    requires { from ≤ length s.now }
-    ensures { result ≡ fields_walk 2 s.now from }
-{
-    if s.len() - from < 60 {
-        return None;
-    }
-    Some((
-        unpack::entry_of(Kind::Sheet, fields::sheet_at(s, from)),
-        from + 60,
-    ))
-}
-
-// Behind the kind of a change.
-fn change_from(s: &[u8], from: usize) -> Option<(Entry, usize)>
-    requires { from ≤ length s.now }
-    ensures { result ≡ fields_walk 3 s.now from }
-{
-    if s.len() - from < 9 {
-        return None;
-    }
-    Some((
-        unpack::entry_of(Kind::Change, fields::change_at(s, from)),
-        from + 9,
-    ))
-}
-
-// Behind the kind of a paired weighing.
-fn paired_from(s: &[u8], from: usize) -> Option<(Entry, usize)>
-    requires { from ≤ length s.now }
-    ensures { result ≡ fields_walk 4 s.now from }
-{
-    if s.len() - from < 29 {
-        return None;
-    }
-    Some((
-        unpack::entry_of(Kind::Paired, fields::paired_at(s, from)),
-        from + 29,
-    ))
-}
-
-// Behind the kind of a seat.
-fn seat_from(s: &[u8], from: usize) -> Option<(Entry, usize)>
-    requires { from ≤ length s.now }
-    ensures { result ≡ fields_walk 5 s.now from }
-{
-    if s.len() - from < 8 {
-        return None;
-    }
-    Some((
-        unpack::entry_of(Kind::Seat, fields::seat_at(s, from)),
-        from + 8,
-    ))
+    Some((T::entry_at(s, from), from + T::LENGTH))
 }
 
 // The entry at a place, and the place behind it; none where nothing there is one.
@@ -111,10 +71,10 @@ pub fn next_entry(s: &[u8], at: usize) -> Option<(Entry, usize)>
     };
     let from = at + 1;
     match kind {
-        Kind::Weighing => weighing_from(s, from),
-        Kind::Sheet => sheet_from(s, from),
-        Kind::Change => change_from(s, from),
-        Kind::Paired => paired_from(s, from),
-        Kind::Seat => seat_from(s, from),
+        Kind::Weighing => entry_from::<Weighing>(s, from),
+        Kind::Sheet => entry_from::<Sheet>(s, from),
+        Kind::Change => entry_from::<Change>(s, from),
+        Kind::Paired => entry_from::<Paired>(s, from),
+        Kind::Seat => entry_from::<Seat>(s, from),
     }
 }

@@ -12,14 +12,18 @@ use Rattle.paper.specs.Record.{is_none}
 use Rattle.paper.specs.Refusals.{entry_number, file_of, ◌when◌, first_number, reading_number}
 use Rattle.paper.specs.Journal.{read, call_number, accepted_call, entries_or}
 use Rattle.judge.specs.declared.Standing.{Standing}
-use Rattle.judge.specs.Standing.{nothing, plainly, Sound, number_at, after}
+use Rattle.judge.specs.Standing.{Stands, stands_in, plainly, judged}
 use Rattle.record.specs.declared.Record.{Record}
-use Rattle.record.specs.declared.Kept.{Kept}
 use Rattle.record.specs.declared.Replayed.{Replayed}
-use Rattle.record.specs.Held.{slot_of, record_of, held_by, kept_or, answered, ReplayedAs}
+use Rattle.record.specs.Held.{record_of, held_by, kept_or, answered, ReplayedAs}
 use Rattle.record.proofs.Turns.{kept_added}
-use Rattle.record.proofs.Replays as replays
-use Rattle.std.specs.Prelude.{Some}
+use Rattle.record.proofs.Replays.{number_is, gone_on}
+use Rattle.record.proofs.Calls.{Answer}
+use Rattle.file.specs.Found.{record_in}
+use Rattle.std.specs.Prelude.{Ok, Err, Some, None}
+use Rattle.std.specs.Prelude.{Option as RustOption}
+use Rattle.paper.specs.declared.Refusal.TheVariants.{NoFile}
+use Rattle.paper.specs.Numbers.{refusal_of}
 use Rattle.stored.specs.Kinds.{entries_to, walk_to}
 use Rattle.stored.proofs.Reading.{Passed, none_passed, refused_entry, one_passed}
 
@@ -32,49 +36,50 @@ pub record ReadTo (s : List ℕ) (k count i at : ℕ) (standing : Standing) (log
   pub held : ReplayedAs entries (record { log = log; standing = standing })
   pub many : log.count ≡ i
 
-pub begun : (s : List ℕ) (k count : ℕ) (log : Record) → log ≡ record_of [] → ReadTo s k count 0 6 nothing log
+pub begun : (s : List ℕ) (k count : ℕ) (log : Record) (standing : Standing) → log ≡ record_of [] → plainly standing ≡ stands_in [] → ReadTo s k count 0 6 standing log
 unfolding record_of
-begun s k count log e =
-    record { entries = []; passed = none_passed s k count; held = replays.begun log e; many = ap (λ (l : Record). l.count) e }
+begun s k count log standing e f =
+    record { entries = []; passed = none_passed s k count; held = record { log = e; stands = f }; many = ap (λ (l : Record). l.count) e }
 
-module _ (s : List ℕ) (k count i at : ℕ) (standing : Standing) (log : Record) (x : ReadTo s k count i at standing log) where
+-- the next entry, as it was judged against what stands
+module _ (s : List ℕ) (k count i at : ℕ) (standing : Standing) (log : Record) (x : ReadTo s k count i at standing log) (b : are_bytes s ≡ true) (h : i < count)
+    (e : Entry) (place : ℕ) (w : walk_to k s at ≡ Some (e, place)) (p : Stands) (n : ℕ) (j : ◌≡◌ {A = ℕ × Stands} (n, p) (judged (plainly standing) e)) where
   abbrev now : Replayed
   now = record { log = log; standing = standing }
 
-  -- what is judged against what stands is judged against the list
-  pub sound_in : Sound i standing
-  sound_in = rw x.many at (replays.stands_at x.entries now x.held).sound
+  number : n ≡ entry_number x.entries e
+  number = number_is x.entries now x.held e p n j
 
-  number_in : (e : Entry) → number_at i (plainly standing) e ≡ entry_number x.entries e
-  number_in e = rw x.many at (replays.number_is x.entries now x.held e)
+  -- it is one that its call refuses
+  pub refused : 0 < n → entries_to k count (drop 6 s) ≡ none
+  refused z = refused_entry s k count i at x.entries x.passed b h e place w (rw number at z)
 
-  module _ (b : are_bytes s ≡ true) (h : i < count) (e : Entry) (place : ℕ) (w : walk_to k s at ≡ Some (e, place)) where
-    -- the next entry is one that its call refuses
-    pub refused : 0 < number_at i (plainly standing) e → entries_to k count (drop 6 s) ≡ none
-    refused n = refused_entry s k count i at x.entries x.passed b h e place w (rw (number_in e) at n)
-
-    -- or it is in the next slot
-    pub one_more : number_at i (plainly standing) e ≡ 0 → (next : Standing) → plainly next ≡ after (plainly standing) e → Sound (i + 1) next → ReadTo s k count (i + 1) place next (record { slots = set log.slots i (slot_of e); count = i + 1 })
-    one_more n next p q =
-        let es = x.entries in
-        let no_number = sym (number_in e) ∙ n in
-        let more : Replayed = record { log = record { slots = set log.slots i (slot_of e); count = i + 1 }; standing = next } in
-        record {
-          entries = es ++ e ∷ [];
-          passed = one_passed s k count i at es x.passed b h e place w no_number;
-          held = rw (kept_added es e no_number) at (replays.gone_on es now x.held e (rw x.many n) more (rw x.many) p (rw x.many q));
-          many = refl;
-        }
+  -- or it is in the next slot
+  pub one_more : n ≡ 0 → (next : Standing) → plainly next ≡ p → ReadTo s k count (i + 1) place next (record { slots = set log.slots i e; count = i + 1 })
+  one_more z next q =
+      let es = x.entries in
+      let fine = sym number ∙ z in
+      record {
+        entries = es ++ e ∷ [];
+        passed = one_passed s k count i at es x.passed b h e place w fine;
+        held = rw (kept_added es e fine, x.many) at (gone_on es now x.held e p n j next q z);
+        many = refl;
+      }
 
 -- ---- what reading answers
 
+-- by what was found
+abbrev pub answered_by : RustOption Record → Record → Answer
+answered_by None r = (Err NoFile, r)
+answered_by (Some log) r = (Ok tt, log)
+
 -- the record of the list that was found, or 12 and the record as it was
-unfoldable pub found_or : Record → Option (List Entry) → Kept
-found_or r none = record { number = 12; log = r }
-found_or r (some es) = record { number = 0; log = record_of es }
+unfoldable pub found_or : Record → Option (List Entry) → Answer
+found_or r none = (Err NoFile, r)
+found_or r (some es) = (Ok tt, record_of es)
 
 found_by : (r : Record) (o : Option (List Entry)) → kept_or (first_number (12 when is_none o ∷ [])) r (entries_or (held_by r) o) ≡ found_or r o
-unfolding kept_or first_number is_none found_or
+unfolding kept_or first_number is_none found_or refusal_of
 found_by r none = refl
 found_by r (some es) = refl
 
@@ -83,10 +88,16 @@ unfolding answered call_number accepted_call reading_number
 reading_answer r xs = found_by r (file_of xs)
 
 -- as the code has it
-pub no_file : (r : Record) (xs : List ℕ) → file_of xs ≡ none → record { number = 12; log = r } ≡ answered r (read xs)
-unfolding found_or
-no_file r xs e = sym (reading_answer r xs ∙ ap (found_or r) e)
+pub no_file : (o : Option (List Entry)) → o ≡ none → ◌≡◌ {A = RustOption Record} None (record_in o)
+no_file o e = rw e refl
 
-pub a_file : (r log : Record) (xs : List ℕ) (es : List Entry) → file_of xs ≡ some es → log ≡ record_of es → record { number = 0; log = log } ≡ answered r (read xs)
+pub a_file : (log : Record) (o : Option (List Entry)) (es : List Entry) → o ≡ some es → log ≡ record_of es → ◌≡◌ {A = RustOption Record} (Some log) (record_in o)
+a_file log o es e l = rw (e, l) refl
+
+pub answers : (q : RustOption Record) (r : Record) (xs : List ℕ) → q ≡ record_in (file_of xs) → answered_by q r ≡ answered r (read xs)
 unfolding found_or
-a_file r log xs es e l = ap (λ (j : Record). record { number = 0; log = j }) l ∙ sym (reading_answer r xs ∙ ap (found_or r) e)
+answers q r xs e = ap (λ (p : RustOption Record). answered_by p r) e ∙ by (file_of xs) ∙ sym (reading_answer r xs)
+  where
+    by : (o : Option (List Entry)) → answered_by (record_in o) r ≡ found_or r o
+    by none = refl
+    by (some es) = refl

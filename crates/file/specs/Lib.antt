@@ -1,2 +1,3 @@
--- How long a file may be.
+-- How long a file may be, and the record that is read back.
 pub mod Longest
+pub mod Found

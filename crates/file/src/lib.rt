@@ -7,13 +7,15 @@ ghost use Rattle.paper.specs.File.{entry_bytes, file_bytes};
 ghost use Rattle.paper.specs.Rows.{joined};
 ghost use Rattle.paper.specs.Answers.{written_answer};
 ghost use Rattle.paper.specs.Journal as journal;
-ghost use Rattle.record.specs.Held.{slotted, held_by, answered};
+ghost use Rattle.paper.specs.Refusals.{file_of};
+ghost use Rattle.record.specs.Held.{held_by, answered};
+ghost use Rattle.file.specs.Found.{record_in};
 ghost use Rattle.file.specs.Longest.{IsLongest};
 
 use header::HEADER;
-use judge::{Judged, Standing, Weighed};
-use paper::Written;
-use record::{Kept, Record, Slot};
+use judge::Standing;
+use paper::{Entry, Refusal};
+use record::Record;
 
 // The longest file, that of 64 sheets.
 pub const LONGEST: usize = 3910;
@@ -25,86 +27,72 @@ pub fn longest() -> usize
     LONGEST
 }
 
-// How many bytes the file of a record takes.
-fn length_of(r: Record) -> usize
-    requires { r.count ≤ 64 }
-    ensures { result ≡ length (file_bytes (slotted r)) }
+// How many bytes the file of some entries takes.
+fn length_of(list: &[Entry]) -> usize
+    requires { length list.now ≤ 64 }
+    ensures { result ≡ length (file_bytes list.now) }
 {
     let mut length = HEADER;
-    let mut i = 0;
-    while i < r.count {
-        let slot = r.slots[i];
-        let e = slot.entry;
-        length += entries::length_of(e);
-        i += 1;
+    for e in list {
+        length += entries::length_of(*e);
     }
     length
 }
 
-// The entries of a record, one behind the other.
-fn put_entries(out: &mut [u8], r: Record)
-    requires { (r.count ≤ 64) × (length (file_bytes (slotted r)) ≤ length out.old) }
-    ensures { out.new ≡ written out.old 6 (joined (map entry_bytes (slotted r))) }
+// The entries, one behind the other.
+fn put_entries(out: &mut [u8], list: &[Entry])
+    requires { length (file_bytes list.now) ≤ length out.old }
+    ensures { out.new ≡ written out.old 6 (joined (map entry_bytes list.now)) }
 {
     let mut at = HEADER;
-    let mut i = 0;
-    while i < r.count {
-        let slot = r.slots[i];
-        let e = slot.entry;
-        at = entries::put_entry(out, at, e);
-        i += 1;
+    for e in list {
+        at = entries::put_entry(out, at, *e);
     }
 }
 
 // Writing: 11 where the buffer is too short, and then no byte of it changes.
-pub fn write(r: Record, out: &mut [u8]) -> Written
-    ensures { (result ≡ (written_answer (held_by r) out.old).0) × (out.new ≡ (written_answer (held_by r) out.old).1) }
+pub fn write(r: &Record, out: &mut [u8]) -> Result<usize, Refusal>
+    ensures { (result, out.new) ≡ written_answer (held_by r.now) out.old }
 {
     let now = record::replay(r);
-    let log = now.log;
-    let length = length_of(log);
+    let list = &now.log.slots[..now.log.count];
+    let length = length_of(list);
     if out.len() < length {
-        return Written {
-            number: 11,
-            length: 0,
-        };
+        return Err(Refusal::ShortBuffer);
     }
-    header::put_header(out, length - 4, log.count);
-    put_entries(out, log);
-    Written { number: 0, length }
+    header::put_header(out, length - 4, list.len());
+    put_entries(out, list);
+    Ok(length)
+}
+
+// The record of a file; none where the bytes are no file.
+fn found(s: &[u8]) -> Option<Record>
+    ensures { result ≡ record_in (file_of s.now) }
+{
+    if !header::is_headed(s) {
+        return None;
+    }
+    let kinds = header::last_kind(s[4]);
+    let mut log = Record::fresh();
+    let mut standing = Standing::new();
+    let mut at = HEADER;
+    for i in 0..s[5] as usize {
+        let (entry, place) = stored::entry_to(s, at, kinds)?;
+        standing.add(entry).ok()?;
+        log.slots[i] = entry;
+        log.count = i + 1;
+        at = place;
+    }
+    if at < s.len() {
+        return None;
+    }
+    Some(log)
 }
 
 // Reading back: 12 where the bytes are no file, and then the record is as it was.
-pub fn read(r: Record, s: &[u8]) -> Kept
-    ensures { result ≡ answered r (journal.read s.now) }
+pub fn read(r: &mut Record, s: &[u8]) -> Result<(), Refusal>
+    ensures { (result, r.new) ≡ answered r.old (journal.read s.now) }
 {
-    if !header::is_headed(s) {
-        return Kept { number: 12, log: r };
-    }
-    let kinds = header::last_kind(s[4]);
-    let count = s[5] as usize;
-    let mut log = Record::fresh();
-    let mut standing = Standing {
-        weighed: Weighed::Never,
-        sheet: 0,
-    };
-    let mut at = HEADER;
-    let mut i = 0;
-    while i < count {
-        let Some((entry, place)) = stored::entry_to(s, at, kinds) else {
-            return Kept { number: 12, log: r };
-        };
-        let Judged::Accepted(next) = judge::judge(i, standing, entry) else {
-            return Kept { number: 12, log: r };
-        };
-        log.slots[i] = Slot { entry };
-        log.count = i + 1;
-        standing = next;
-        at = place;
-        i += 1;
-    }
-    if at < s.len() {
-        return Kept { number: 12, log: r };
-    }
-    Kept { number: 0, log }
+    *r = found(s).ok_or(Refusal::NoFile)?;
+    Ok(())
 }

@@ -1,49 +1,41 @@
-// The lines in turn.
+// A line of output for each line of cases.
 use crate::{trial, written};
-use lines::{between, text};
 use record::Record;
-use script::calls::played;
-use script::texts::{byte_at, digits, place_of};
+use script::calls::{head_and_calls, played};
+use script::texts::digits;
 use std::io;
 
-// What the letter of a line asks. The answer is the record that it leaves.
-fn done(rt: &impl Print, r: Record, letter: u8, given: &[u8], calls: &[u8]) -> io::Result<Record> {
-    match letter {
-        b't' => trial::tried(rt, r, given),
-        b'r' => trial::read(rt, r, given),
-        b'c' => trial::kept(rt, played(r, calls)),
-        b'w' => written::shown(rt, played(r, calls).log),
-        _ => written::into(rt, played(r, calls).log, digits(given, 0) as usize),
+// What a line asks, by its letter and what stands behind that up to a space.
+fn done(rt: &impl Print, log: &mut Record, asked: &[u8], calls: &[u8]) -> io::Result<()> {
+    let last = match asked {
+        [b't', spelling @ ..] => return trial::tried(rt, spelling),
+        [b'r', spelling @ ..] => trial::read(*log, spelling),
+        _ => played(*log, calls),
+    };
+    *log = last.log;
+    match asked {
+        [b'r' | b'c', ..] => trial::kept(rt, last),
+        [b'w', ..] => written::shown(rt, last.log),
+        [_, size @ ..] => written::into(rt, last.log, digits(size) as usize),
+        [] => written::into(rt, last.log, 0),
     }
 }
 
-// A line with its line feed.
-fn act(rt: &impl Print, r: Record, line: &[u8]) -> io::Result<Record> {
-    if line.len() < 2 {
-        return Ok(r);
-    }
-    let space = place_of(line, b' ');
-    let behind = place_of(line, b':').wrapping_add(1);
-    text(rt, between(line, space.wrapping_add(1), behind))?;
-    let log = done(
-        rt,
-        r,
-        byte_at(line, 0),
-        between(line, 1, space),
-        between(line, behind.wrapping_add(1), line.len()),
-    )?;
-    text(rt, b"\n")?;
-    Ok(log)
+// The label of a line, with its colon.
+fn label(line: &[u8]) -> Option<&[u8]> {
+    let space = line.iter().position(|x| *x == b' ')?;
+    let colon = line.iter().position(|x| *x == b':')?;
+    line.get(space + 1..=colon)
 }
 
-pub fn each(rt: &impl Print, s: &[u8]) -> io::Result<()> {
-    let mut log = Record::fresh();
-    let mut from = 0;
-    for i in 0..s.len() {
-        if s[i] == b'\n' {
-            log = act(rt, log, between(s, from, i + 1))?;
-            from = i + 1;
-        }
+// A line with its line feed, which changes the record.
+pub fn act(rt: &impl Print, log: &mut Record, line: &[u8]) -> io::Result<()> {
+    if matches!(line, b"\n") {
+        return Ok(());
     }
-    Ok(())
+    let (_, calls) = head_and_calls(line);
+    let asked = line.split(|x| *x == b' ').next().unwrap_or(line);
+    rt.write_all(label(line).unwrap_or(line))?;
+    done(rt, log, asked, calls)?;
+    rt.write_all(b"\n")
 }

@@ -19,6 +19,8 @@ mod cases;
 mod trial;
 mod written;
 
+use lines::each_block;
+use script::calls::each_line;
 use std::io;
 
 // The cases come in blocks of this many bytes, filled up with line feeds. Each begins with a fresh record.
@@ -26,16 +28,9 @@ const BLOCK: usize = 16384;
 
 const BLOCKS: usize = 25;
 
-// The next block.
-fn block(rt: &(impl Input + Print)) -> io::Result<()> {
-    let mut input = [0u8; BLOCK];
-    let n = lines::read_full(&mut rt.reader(), &mut input)?;
-    cases::each(rt, &input[..n])
-}
-
 fn main(rt: HostRuntime) -> io::Result<()> {
-    for _ in 0..BLOCKS {
-        block(&rt)?;
-    }
-    Ok(())
+    let mut buffer = [0u8; BLOCK];
+    each_block(&mut rt.reader(), &mut buffer, BLOCKS, |block| {
+        each_line(block, |log, line| cases::act(&rt, log, line))
+    })
 }

@@ -1,6 +1,5 @@
 // A file read, and what comes of it.
-use crate::written::numbers;
-use lines::{between, centre_of_gravity, sum, text, unsigned};
+use lines::{Centre, first, sum};
 use record::{Kept, Record};
 use script::texts::spelled;
 use std::io;
@@ -8,55 +7,55 @@ use std::io;
 // The version that is written.
 const VERSION: u8 = 2;
 
+// A fresh record's file.
+const FRESH: [u8; 6] = [0, 0, 0, 2, VERSION, 0];
+
+// Room for the bytes of a line.
+const ROOM: usize = 4096;
+
 // `other` where the record's file is not s.
-fn compared(rt: &impl Print, r: Record, s: &[u8]) -> io::Result<()> {
+fn compared(rt: &impl Print, log: Record, s: &[u8]) -> io::Result<()> {
     let mut out = [0u8; file::LONGEST];
-    let w = file::write(r, &mut out);
-    if between(&out, 0, w.length) != s {
-        text(rt, b" other")?;
+    let w = file::write(log, &mut out);
+    if first(&out, w.length) != s {
+        print!(rt; " other")?;
     }
     Ok(())
 }
 
-// What reading into a fresh record answered, and whether the record then has the file that it should.
-fn answered(rt: &impl Print, k: Kept, s: &[u8]) -> io::Result<()> {
-    text(rt, b" ")?;
+// The bytes that digits of sixteen spell, read into a fresh record, and whether that then has the file that it should.
+pub fn tried(rt: &impl Print, digits: &[u8]) -> io::Result<()> {
+    let mut room = [0u8; ROOM];
+    let s = spelled(digits, &mut room);
+    let k = file::read(Record::fresh(), s);
+    if let Some(version) = s.get_mut(4) {
+        *version = VERSION;
+    }
     if k.number == 0 {
-        centre_of_gravity(rt, k.log)?;
+        print!(rt; " {}", Centre(k.log.centre_of_gravity()))?;
         compared(rt, k.log, s)
     } else {
-        unsigned(rt, k.number)?;
-        compared(rt, k.log, &[0, 0, 0, 2, VERSION, 0])
+        print!(rt; " {}", k.number)?;
+        compared(rt, k.log, &FRESH)
     }
 }
 
-// The bytes that digits of sixteen spell, tried. The record stays.
-pub fn tried(rt: &impl Print, r: Record, digits: &[u8]) -> io::Result<Record> {
-    let mut s = [0u8; 4096];
-    let n = spelled(digits, &mut s);
-    let k = file::read(Record::fresh(), between(&s, 0, n));
-    s[4] = VERSION;
-    answered(rt, k, between(&s, 0, n))?;
-    Ok(r)
-}
-
 // What a call answered.
-pub fn kept(rt: &impl Print, k: Kept) -> io::Result<Record> {
-    let log = k.log;
+pub fn kept(rt: &impl Print, k: Kept) -> io::Result<()> {
     let mut out = [0u8; file::LONGEST];
-    let w = file::write(log, &mut out);
-    text(rt, b" ")?;
-    unsigned(rt, k.number)?;
-    text(rt, b" ")?;
-    centre_of_gravity(rt, log)?;
-    numbers(rt, w)?;
-    unsigned(rt, sum(between(&out, 0, w.length)))?;
-    Ok(log)
+    let w = file::write(k.log, &mut out);
+    let centre = Centre(k.log.centre_of_gravity());
+    print!(rt;
+        " {} {centre} {} {} {}",
+        k.number,
+        w.number,
+        w.length,
+        sum(first(&out, w.length))
+    )
 }
 
 // The bytes that digits of sixteen spell, read into a record.
-pub fn read(rt: &impl Print, r: Record, digits: &[u8]) -> io::Result<Record> {
-    let mut s = [0u8; 4096];
-    let n = spelled(digits, &mut s);
-    kept(rt, file::read(r, between(&s, 0, n)))
+pub fn read(log: Record, digits: &[u8]) -> Kept {
+    let mut room = [0u8; ROOM];
+    file::read(log, spelled(digits, &mut room))
 }

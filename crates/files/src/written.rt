@@ -1,57 +1,30 @@
 // A record's file, written.
-use lines::{between, centre_of_gravity, sum, text, unsigned, unwritten};
-use paper::Written;
+use lines::{Centre, first, lent, sum, unwritten};
 use record::Record;
 use std::io;
 
-// What writing answered: number and length.
-pub fn numbers(rt: &impl Print, w: Written) -> io::Result<()> {
-    text(rt, b" ")?;
-    unsigned(rt, w.number)?;
-    text(rt, b" ")?;
-    unsigned(rt, w.length as u64)?;
-    text(rt, b" ")
-}
+// The most bytes that are lent, and how many behind them are looked at.
+const ROOM: usize = 4080;
 
-fn byte(rt: &impl Print, x: u8) -> io::Result<()> {
-    print!(rt; "{x:02x}")
-}
+const BEHIND: usize = 16;
 
-// Bytes, in digits of sixteen.
-fn hex(rt: &impl Print, s: &[u8]) -> io::Result<()> {
-    for x in s {
-        byte(rt, *x)?;
+// The centre of gravity, and the file's number, length and bytes in digits of sixteen.
+pub fn shown(rt: &impl Print, log: Record) -> io::Result<()> {
+    let mut out = [0u8; file::LONGEST];
+    let w = file::write(log, &mut out);
+    let centre = Centre(log.centre_of_gravity());
+    print!(rt; " {centre} {} {} ", w.number, w.length)?;
+    for x in first(&out, w.length) {
+        print!(rt; "{x:02x}")?;
     }
     Ok(())
 }
 
-// The centre of gravity, and the file's number, length and bytes.
-pub fn shown(rt: &impl Print, r: Record) -> io::Result<Record> {
-    let mut out = [0u8; file::LONGEST];
-    let w = file::write(r, &mut out);
-    text(rt, b" ")?;
-    centre_of_gravity(rt, r)?;
-    numbers(rt, w)?;
-    hex(rt, between(&out, 0, w.length))?;
-    Ok(r)
-}
-
-// Writing into the first n bytes.
-fn write_first(r: Record, out: &mut [u8], n: usize) -> Written {
-    if n <= out.len() {
-        return file::write(r, &mut out[0..n]);
-    }
-    file::write(r, out)
-}
-
-// Writing into n bytes of AA.
-pub fn into(rt: &impl Print, r: Record, n: usize) -> io::Result<Record> {
-    let mut out = [0xAAu8; 4096];
-    let w = write_first(r, &mut out, n);
-    let end = w.length;
-    numbers(rt, w)?;
-    unsigned(rt, sum(between(&out, 0, end)))?;
-    text(rt, b" ")?;
-    unsigned(rt, unwritten(between(&out, end, n.wrapping_add(16))))?;
-    Ok(r)
+// Writing into n bytes of AA: number and length, the sum of the bytes, and how many behind them stayed.
+pub fn into(rt: &impl Print, log: Record, n: usize) -> io::Result<()> {
+    let mut out = [0xAAu8; ROOM + BEHIND];
+    let w = file::write(log, lent(&mut out, n));
+    let written = sum(first(&out, w.length));
+    let left = unwritten(out.get(w.length..n.saturating_add(BEHIND)).unwrap_or(&out));
+    print!(rt; " {} {} {written} {left}", w.number, w.length)
 }

@@ -3,13 +3,10 @@
 // The rows of a placard that stand beside one rear load, as lines in a lent buffer. What is aboard is carried from row to row.
 ghost use Rattle.std.specs.Prelude.{◌≡◌, List, ℕ, ◌+◌, ◌*◌, ◌≤◌, ◌<◌, length};
 ghost use Rattle.laws.specs.Written.{written};
-ghost use Rattle.paper.specs.Record.{Balance as Plain};
-ghost use Rattle.paper.specs.Rows.{row, row_count};
-ghost use Rattle.paper.specs.Placard.{kilograms, line, line_length};
+ghost use Rattle.paper.specs.Rows.{row_count};
+ghost use Rattle.paper.specs.Placard.{line_length};
 ghost use Rattle.balance.specs.Balance.{plain, Bounded};
-ghost use Rattle.aboard.specs.Aboard.{Beside, LoadOf, Room, Share};
-ghost use Rattle.limits.specs.Seats.{Seated, NoneOf};
-ghost use Rattle.line.specs.Word.{word};
+ghost use Rattle.aboard.specs.Aboard.{LoadOf, Share};
 ghost use Rattle.group.specs.Numbered.{rears, waters, blanks, lines_to, blanks_to};
 ghost use Rattle.group.specs.Shared.{FieldsOf};
 
@@ -18,7 +15,6 @@ use balance::Balance;
 use limits::Front;
 use paper::{MOST_ROWS, Row, Weight};
 use seat::InForce;
-use solver::Span;
 
 // How many bytes a line has.
 pub const LINE: usize = 36;
@@ -70,25 +66,6 @@ impl Terms {
         }
     }
 
-    // The line of a row, as the i-th: behind the lines before it. Rear load and water come as their fields; both are aboard x, and a
-    // span holds the steps that keep every limit with none of the water.
-    fn put_row(
-        &self,
-        span: Span,
-        x: &Laden,
-        rear: u64,
-        water: u64,
-        i: usize,
-        out: &mut [u8],
-    ) -> usize
-        requires { Seated self.now.front.arms.force.sheet span × Room 256 x.now × (i < 256) × (line_length * (i + 1) ≤ length out.old) }
-        ensures { let f = self.now.front.arms.force in (result ≤ 1) × ((b : Plain) (r w : ℕ) → rear ≡ word (kilograms r) → water ≡ word (kilograms w) → Beside f.sheet b r w x.now → NoneOf f.sheet f.seat b r span → (result ≡ blanks (row f.sheet f.seat b r w)) × (out.new ≡ written out.old (line_length * i) (line r w (row f.sheet f.seat b r w)))) }
-    {
-        let y = row::row(&self.front, span, x);
-        line::put_line(&mut out[LINE * i..], rear, water, y);
-        blank(y)
-    }
-
     // The lines of the rows beside the j-th rear load. What is aboard starts afresh with it, and goes on by the share of a step of
     // water; the share behind the last row is added and not used. A line is put by its place: of a buffer that is lent in chunks
     // nothing is known afterwards.
@@ -105,9 +82,10 @@ impl Terms {
         let first = j * fields.len();
         let mut none = 0;
         for (k, &water) in fields.iter().enumerate() {
-            let next = x.carried(self.share);
-            none += self.put_row(span, &x, field, water, first + k, out);
-            x = next;
+            let y = row::row(&self.front, span, &x);
+            line::put_line(&mut out[LINE * (first + k)..], field, water, y);
+            none += blank(y);
+            x = x.carried(self.share);
         }
         none
     }

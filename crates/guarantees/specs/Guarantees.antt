@@ -33,9 +33,8 @@ use Rattle.balance.specs.Balance.{plain, Bounded}
 use Rattle.planes.specs.Plane.{kept_at}
 use Rattle.planes.proofs.Arms as arms
 use Rattle.aboard.specs.declared.Laden.{Laden}
-use Rattle.aboard.specs.Aboard.{ArmsIn, value_of}
+use Rattle.aboard.specs.Sides.{value_of}
 use Rattle.group.specs.declared.Terms.{Terms}
-use Rattle.group.proofs.terms_of.Reads as terms-of
 use Rattle.record.specs.declared.Record.{Record}
 use Rattle.record.specs.declared.Kept.{Kept}
 use Rattle.record.specs.Held.{record_of, held_by}
@@ -68,7 +67,7 @@ use Rattle.claim.specs.Buffers.{call_renewed, read_renewed, room_for_all}
 use Rattle.claim.specs.LibraryCalls as of-library
 use Rattle.claim.proofs.LibraryCalls as library-claim
 use Rattle.claim.specs.Records as records
-use Rattle.claim.specs.Carrying.{Carrying, row_moment, every_row_carried}
+use Rattle.claim.specs.Carrying.{Carrying, sheet_in, row_moment, every_row_carried}
 
 -- ---- the whole list
 
@@ -94,14 +93,14 @@ journal_record = records.journal_record
 -- ---- rows
 
 -- The moment carried down the page to the k-th row beside a rear load, the first being the 0th, is M with that rear load and all
--- of the row's water at their arms. It starts afresh with the rear load (`aboard::beside`) and goes on by the share of a step of
--- water (`aboard::carried`).
-pub moment_carried : (s : Sheet) (f : Seat) (t : Terms) → terms-of.Post tt (s, (f, tt)) t (s, (f, tt)) → (b : Balance) (rear : ℕ) {k : ℕ} {x : Laden} → Carrying t b rear k x
-    → value_of x.moment ≡ moment_beside s (plain b) rear (k * s.water.step)
+-- of the row's water at their arms. It starts afresh with the rear load (`Arms::beside`) and goes on by the share of a step of
+-- water (`Laden::carried`).
+pub moment_carried : (t : Terms) (b : Balance) (rear : ℕ) {k : ℕ} {x : Laden} → Carrying t b rear k x
+    → value_of x.moment ≡ moment_beside (sheet_in t) (plain b) rear (k * (sheet_in t).water.step)
 moment_carried = row_moment
 
 -- It is about something: within the bounds that accepted sheets and lists keep to, something is carried to every row.
-pub something_carried : (t : Terms) (b : Balance) (rear : ℕ) → ArmsIn t.arms → Bounded 1024 b → rear ≤ 500000 → (k : ℕ) → (x : Laden) × Carrying t b rear k x
+pub something_carried : (t : Terms) (b : Balance) (rear : ℕ) → Bounded 1024 b → rear ≤ 500000 → (k : ℕ) → (x : Laden) × Carrying t b rear k x
 something_carried = every_row_carried
 
 -- The arms that demand 3 speaks of are the whole numbers between the two ends of the seat, both included.

@@ -1,5 +1,5 @@
 -- What a list's values come to that were held in registers: a word of 64 bits gives back what was put in. Assumes nothing.
-use mathlib.Core.Path.{◌≡◌}
+use mathlib.Core.Path.{◌≡◌, ◌∙◌}
 use mathlib.Core.List.{List}
 use Prim.Native.Nat.{ℕ, ◌^◌, ◌<◌}
 use lib.IntN.{ℤ, nat_abs}
@@ -8,6 +8,10 @@ use mir.Syntax.{w64}
 use mir.Val.{hbits, to_z, of_z}
 use mir.Facts.{to_z-of_z}
 use Rattle.paper.specs.File.{signed_at, plain_at}
+
+-- a value that was put in a register, by what it is
+pub given : {x y : ℤ} → mag x < 2 ^ hbits w64 → x ≡ y → to_z w64 (of_z w64 x) ≡ y
+given h e = to_z-of_z {w = w64} (record { sfits = h }) ∙ e
 
 module _ (v : List ℤ) (i : ℕ) where
   pub held : mag (signed_at v i) < 2 ^ hbits w64 → to_z w64 (of_z w64 (signed_at v i)) ≡ signed_at v i

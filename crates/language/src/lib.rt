@@ -1,12 +1,12 @@
 #![tactic(auto)]
 
 // The logbook's language: what a line says.
-ghost use Rattle.std.specs.Prelude.{◌≡◌, suc, ◌≤◌, eqb, length, get_or, drop};
-ghost use Rattle.laws.specs.Equal.{eq_list};
+ghost use Rattle.std.specs.Prelude.{◌≡◌, suc, ◌≤◌, length, get_or, drop};
 ghost use Rattle.paper.specs.Numbers.{code_of};
 ghost use Rattle.language.specs.Lines.{kind_named, values_from, candidate, says};
 
-use layout::FIELDS;
+use arrayvec::ArrayString;
+use kinds::FIELDS;
 use paper::{Entry, Kind};
 
 // Room for the text of every entry: a name, and fifteen numbers of at most 21 bytes with a space before each.
@@ -21,11 +21,11 @@ pub enum Line {
     NotUnderstood,
 }
 
-// The letter at a place, 0 where there is none.
+// The letter at a place, 0 where there is none, as the definition of `candidate` reads it.
 fn letter_at(s: &[u8], i: usize) -> u8
     ensures { result ≡ get_or s.now i 0 }
 {
-    if i < s.len() { s[i] } else { 0 }
+    s.get(i).copied().unwrap_or(0)
 }
 
 // The kind whose name begins with these two letters.
@@ -56,12 +56,10 @@ fn values_at(s: &[u8], from: usize) -> [i64; FIELDS]
 {
     let mut v = [0i64; FIELDS];
     let mut at = from;
-    let mut i = 0;
-    while i < FIELDS {
+    for i in 0..FIELDS {
         let end = laws::find(s, at, s.len(), b' ');
         v[i] = numerals::number_of(&s[at..end]);
         at = behind(s, end);
-        i += 1;
     }
     v
 }
@@ -76,27 +74,20 @@ fn candidate(s: &[u8]) -> Entry
     values::entry_of(kind, v)
 }
 
-// Whether two slices hold the same bytes.
-fn same(s: &[u8], t: &[u8]) -> bool
-    ensures { result ≡ eq_list eqb s.now t.now }
-{
-    s == t
-}
-
 // What a line says. It is an entry's where writing that entry gives the line again.
 pub fn read_line(s: &[u8]) -> Line
     ensures { result ≡ says s.now }
 {
-    if s.len() == 0 || s[0] == b'#' {
+    if s.is_empty() || s[0] == b'#' {
         return Line::Passed;
     }
-    if same(s, b"undo") {
+    if s == b"undo".as_slice() {
         return Line::Undo;
     }
     let e = candidate(s);
-    let mut text = [0u8; LONGEST];
-    let n = wording::put_entry(&mut text, 0, e);
-    if same(s, &text[..n]) {
+    let mut text = ArrayString::<LONGEST>::new();
+    wording::put_entry(&mut text, e);
+    if s == text.as_bytes() {
         Line::Entry(e)
     } else {
         Line::NotUnderstood

@@ -77,12 +77,10 @@ pub fn find(s: &[u8], from: usize, to: usize, b: u8) -> usize
     requires { (from ≤ to) × (to ≤ length s.now) }
     ensures { (result ≡ from + index_of b (slice from to s.now)) × (result ≤ to) }
 {
-    for i in from..to {
-        if s[i] == b {
-            return i;
-        }
+    match s[from..to].iter().position(|x| *x == b) {
+        Some(i) => from + i,
+        None => to,
     }
-    to
 }
 
 // Copies bytes to the front of a buffer. The answer is how many.
@@ -90,8 +88,6 @@ pub fn copy(s: &[u8], out: &mut [u8]) -> usize
     requires { length s.now ≤ length out.old }
     ensures { (result ≡ length s.now) × (out.new ≡ written out.old 0 s.now) }
 {
-    for i in 0..s.len() {
-        out[i] = s[i];
-    }
+    out[..s.len()].copy_from_slice(s);
     s.len()
 }

@@ -1,39 +1,31 @@
 #![tactic(auto)]
 
-// What the programs print, and what they take and how they read it. `to` is standard output or standard error.
-ghost use Rattle.std.specs.Prelude.{◌≤◌, length, IfOk};
+// What the programs print, and what they take and how they read it.
+ghost use Rattle.std.specs.Prelude.{◌≡◌, ◌≤◌, length, take, IfOk};
 
-use record::Record;
-use std::io;
+use paper::CentreOfGravity;
 use std::io::Read;
+use std::{fmt, io};
 
-pub fn text(to: &impl Print, s: &[u8]) -> io::Result<()> {
-    to.write_all(s)
-}
+// What the centre-of-gravity call answers, as it is printed: number, total, moment and centre.
+#[derive(Clone, Copy)]
+pub struct Centre(pub CentreOfGravity);
 
-pub fn unsigned(to: &impl Print, n: u64) -> io::Result<()> {
-    to.print(n)
-}
-
-pub fn signed(to: &impl Print, x: i64) -> io::Result<()> {
-    to.print(x)
+impl fmt::Display for Centre {
+    fn fmt<W: fmt::Write>(&self, f: &mut fmt::Formatter<W>) -> fmt::Result {
+        let CentreOfGravity {
+            number,
+            total,
+            moment,
+            centre,
+        } = self.0;
+        write!(f, "{number} {total} {moment} {centre}")
+    }
 }
 
 // That something is refused, and by which number.
 pub fn refused(to: &impl Print, number: u64) -> io::Result<()> {
     println!(to; "refused {number}")
-}
-
-// Number, total, moment and centre.
-pub fn centre_of_gravity(to: &impl Print, r: Record) -> io::Result<()> {
-    let c = r.centre_of_gravity();
-    unsigned(to, c.number)?;
-    text(to, b" ")?;
-    unsigned(to, c.total)?;
-    text(to, b" ")?;
-    signed(to, c.moment)?;
-    text(to, b" ")?;
-    signed(to, c.centre)
 }
 
 // Reads until the buffer is full or there is no more. The answer is how many bytes were read.
@@ -51,38 +43,46 @@ pub fn read_full(from: &mut impl Read, out: &mut [u8]) -> io::Result<usize>
     Ok(at)
 }
 
-// The bytes from one place to another, or all where there are no such places.
-pub fn between(s: &[u8], from: usize, to: usize) -> &[u8] {
-    if s.len() < to {
-        return s;
+// The input in so many blocks, each as long as the buffer where there is as much, and handed on in turn.
+pub fn each_block<R: Read, F: FnMut(&[u8]) -> io::Result<()>>(
+    from: &mut R,
+    buffer: &mut [u8],
+    blocks: usize,
+    mut act: F,
+) -> io::Result<()>
+    requires { F.IsAlwaysCallable act }
+{
+    for _ in 0..blocks {
+        let n = read_full(from, buffer)?;
+        act(&buffer[..n])?;
     }
-    if to < from {
-        return s;
-    }
-    &s[from..to]
+    Ok(())
 }
 
-// A sum in which each place counts, with one byte more.
-fn mixed(sum: u64, x: u8) -> u64 {
-    sum % 1_000_003 * 257 + x as u64
+// The first n bytes, or all where there are fewer.
+pub fn first(s: &[u8], n: usize) -> &[u8]
+    ensures { result.now ≡ take n s.now }
+{
+    &s[..n.min(s.len())]
 }
 
-// The sum of bytes.
+// The same of a buffer, which is lent.
+pub fn lent(buffer: &mut [u8], n: usize) -> &mut [u8]
+    ensures { result.now ≡ take n buffer.old }
+{
+    let room = n.min(buffer.len());
+    &mut buffer[..room]
+}
+
+// The sum of bytes, in which each place counts.
 pub fn sum(s: &[u8]) -> u64 {
-    let mut n = 0;
-    for x in s {
-        n = mixed(n, *x);
-    }
-    n
+    s.iter()
+        .fold(0, |n: u64, x| n % 1_000_003 * 257 + u64::from(*x))
 }
 
 // How many bytes are AA, which a buffer has before it is lent.
-pub fn unwritten(s: &[u8]) -> u64 {
-    let mut n = 0u64;
-    for x in s {
-        if *x == 0xAA {
-            n = n.wrapping_add(1);
-        }
-    }
-    n
+pub fn unwritten(s: &[u8]) -> usize
+    ensures { result ≤ length s.now }
+{
+    s.iter().filter(|x| **x == 0xAA).count()
 }

@@ -1,17 +1,16 @@
 -- Half grams in grams: by whether there is a half, and on which side of 0 they are. Assumes nothing.
-use mathlib.Core.Path.{◌≡◌, sym, ap, ◌∙◌}
+use mathlib.Core.Path.{◌≡◌, refl, sym, ap, ◌∙◌}
 use mathlib.Core.Bool.{Bool, true, false, cond}
 use mathlib.Core.List.{List, [], ◌∷◌, ◌++◌, append-nil}
 use Prim.Native.Nat.{ℕ, suc, ◌+◌, ◌*◌, ◌/◌, ◌%◌, ◌≤◌, ◌<◌}
 use native.Mathlib.Numerals.{add-one}
 use native.Mathlib.Omega.{arith}
 use lib.Dec.{eqb}
-use lib.IntN.{ℤ, pos, negsuc, neg_ℤ}
-use lib.ListN.{length, set, length-append}
-use borrow.Author.Tests.{eq-eqb, ne_eqb}
+use lib.IntN.{ℤ, pos, negsuc, neg_ℤ, nat_abs}
+use lib.Signed.{lt_z}
+use lib.ListN.{length, length-append}
+use borrow.Author.Tests.{eq-eqb, ne_eqb, ltb-true}
 use Rattle.laws.specs.Lists.{Each, each_append}
-use Rattle.laws.specs.Written.{written_behind}
-use Rattle.laws.specs.Puts.{Put}
 use Rattle.paper.specs.Units.{half_grams}
 use Rattle.paper.specs.Placard.{hyphen, point}
 use Rattle.numerals.specs.Numerals.{decimal, numeral}
@@ -60,13 +59,22 @@ halves_above n = each_append (λ (x : ℕ). 44 < x) (decimal (n / 2)) (half (eqb
 
 -- ---- with a sign
 
-pub signed_below : (x : ℤ) (n : ℕ) → x ≡ negsuc n → signed_halves x ≡ hyphen ∷ halves (n + 1)
+-- by the sign, and the size; y is what the code holds of x
+below : (y : ℤ) → lt_z y (pos 0) ≡ true → signed_halves y ≡ hyphen ∷ halves (nat_abs y)
 unfolding signed_halves
-signed_below x n e = rw (e, add-one n)
+below (pos n) b = absurd (omega (arith, ltb-true n 0 b))
+below (negsuc n) b = refl
 
-pub signed_from : (x : ℤ) (n : ℕ) → pos n ≡ x → signed_halves x ≡ halves n
+from : (y : ℤ) → lt_z y (pos 0) ≡ false → signed_halves y ≡ halves (nat_abs y)
 unfolding signed_halves
-signed_from x n e = ap signed_halves (sym e)
+from (pos n) b = refl
+from (negsuc n) b = cc
+
+pub signed_below : (x y : ℤ) (n : ℕ) → y ≡ x → lt_z y (pos 0) ≡ true → n ≡ nat_abs y → signed_halves x ≡ hyphen ∷ halves n
+signed_below x y n e b m = rw (← e, m) (below y b)
+
+pub signed_from : (x y : ℤ) (n : ℕ) → y ≡ x → lt_z y (pos 0) ≡ false → n ≡ nat_abs y → signed_halves x ≡ halves n
+signed_from x y n e b m = rw (← e, m) (from y b)
 
 pub signed_some : (x : ℤ) → 0 < length (signed_halves x)
 unfolding signed_halves
@@ -82,11 +90,6 @@ pub signed_above : (x : ℤ) → Each (λ (x : ℕ). 44 < x) (signed_halves x)
 unfolding signed_halves
 signed_above (pos n) = halves_above n
 signed_above (negsuc n) = (omega arith, halves_above _)
-
-pub put-below : (s last : List ℕ) (at r n : ℕ) (x : ℤ) → at < length s → x ≡ negsuc n → Put (set s at hyphen) (at + 1) (halves (n + 1)) r last → Put s at (signed_halves x) r last
-put-below s last at r n x h e p =
-    rw (signed_below x n e)
-    (omega (arith, p.0), p.1 ∙ written_behind s at hyphen (halves (n + 1)) h)
 
 -- ---- whole grams, which have no half
 

@@ -1,5 +1,5 @@
 -- How long the parts of a listing are, and the most that it takes. Assumes nothing.
-use mathlib.Core.Path.{◌≡◌, ap}
+use mathlib.Core.Path.{◌≡◌}
 use mathlib.Core.List.{List, [], ◌∷◌, ◌++◌}
 use Prim.Native.Nat.{◌+◌, ◌*◌, ◌≤◌}
 use native.Mathlib.Omega.{arith}
@@ -9,32 +9,17 @@ use Rattle.paper.specs.declared.Entry.TheVariants as entry
 use Rattle.paper.specs.declared.CentreOfGravity.{CentreOfGravity}
 use Rattle.paper.specs.Placard.{feed}
 use Rattle.paper.specs.Answers.{centre_answer}
-use Rattle.numerals.specs.Numerals.{numeral}
 use Rattle.numerals.proofs.Words.{numeral_most}
 use Rattle.wording.specs.Texts.{entry_text}
 use Rattle.wording.proofs.Plain.{text_most}
-use Rattle.listing.specs.Listings.{total_text, moment_text, centre_text, halves, signed_halves, comment, remark, lines_of, listed_after, listing}
+use Rattle.listing.specs.Listings.{comment, remark, lines_of, listed_after, listing}
 use Rattle.listing.proofs.Halves.{halves_most, signed_most}
-use Rattle.listing.proofs.Comments.{from_total, behind_total, from_moment, behind_moment, from_centre, comment-parts}
+use Rattle.listing.proofs.Comments.{length-comment}
 
 -- ---- a comment
 
--- 25 bytes of labels with the line feed, and the numbers
 comment_most : (c : CentreOfGravity) → length (comment c) ≤ 91
-comment_most c =
-    omega (
-      arith,
-      ap length (comment-parts c),
-      length-append total_text (from_total c),
-      length-append (halves c.total) (behind_total c),
-      length-append moment_text (from_moment c),
-      length-append (signed_halves c.moment) (behind_moment c),
-      length-append centre_text (from_centre c),
-      length-append (numeral c.centre) (feed ∷ []),
-      halves_most c.total,
-      signed_most c.moment,
-      numeral_most c.centre,
-    )
+comment_most c = omega (arith, length-comment c, halves_most c.total, signed_most c.moment, numeral_most c.centre)
 
 -- ---- the lines of an entry
 

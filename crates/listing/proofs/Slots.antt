@@ -1,10 +1,12 @@
 -- The entries in a record's slots in turn: one that is refused is passed over; one that is accepted is readable, and its lines
 -- find room behind those of the others. Assumes nothing.
 use mathlib.Core.Path.{◌≡◌, sym, ap, ◌∙◌}
-use mathlib.Core.List.{List, [], ◌∷◌, ◌++◌}
-use Prim.Native.Nat.{ℕ, ◌+◌, ◌≤◌, ◌<◌}
+use mathlib.Core.List.{List, [], ◌∷◌, ◌++◌, map}
+use Prim.Native.Nat.{ℕ, min, ◌+◌, ◌≤◌, ◌<◌}
 use native.Mathlib.Omega.{arith}
-use lib.ListN.{length, get_or}
+use lib.ListN.{length, get_or, take}
+use lib.Seq.{take_all}
+use native.Mathlib.Decide.{dec_le}
 use Rattle.paper.specs.declared.Entry.{Entry}
 use Rattle.paper.specs.declared.CentreOfGravity.{CentreOfGravity}
 use Rattle.paper.specs.Refusals.{entry_number}
@@ -13,7 +15,8 @@ use Rattle.judge.specs.declared.Standing.{Standing}
 use Rattle.judge.specs.Standing.{stands_in, plainly, Sound, number_at, after}
 use Rattle.judge.proofs.Accepted.{room_for}
 use Rattle.record.specs.declared.Slot.{Slot}
-use Rattle.record.specs.Held.{entry_in}
+use Rattle.record.specs.declared.Record.{Record}
+use Rattle.record.specs.Held.{entry_in, replayed, slotted, held_by}
 use Rattle.record.proofs.Turns.{kept_added, kept_same}
 use Rattle.record.proofs.Replays.{StandsAt, number_here, one_stands, held_to, held_more}
 use Rattle.values.specs.Places.{Readable}
@@ -56,3 +59,14 @@ module _ (slots : List Slot) (i n : ℕ) (d : Slot) (s : Standing) (h : i < leng
 
       pub stands-more : StandsAt (held_to slots (i + 1)) (n + 1) t
       stands-more = rw more (one_stands es n s at e t p q)
+
+-- ---- the slots that are used, as the code takes them
+
+pub all_slots : (r : Record) (k i : ℕ) → length r.slots ≡ 64 → k ≡ min r.count 64 → length (take k r.slots) ≤ i → held_to (take k r.slots) i ≡ held_by r
+unfolding held_by slotted
+all_slots r k i n e h =
+    rw (take_all i (take k r.slots) h)
+    (elim (dec_le r.count 64) as (λ d. replayed [] (map entry_in (take k r.slots)) ≡ replayed [] (map entry_in (take r.count r.slots))) [
+      | yes l ↦ let f : k ≡ r.count = omega arith in rw f
+      | no l ↦ rw (take_all k r.slots (omega arith), take_all r.count r.slots (omega arith))
+    ])

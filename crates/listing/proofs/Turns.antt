@@ -1,4 +1,4 @@
--- The listing of a list with one entry more, by recursion on the list, and the parts of an entry's lines. Assumes nothing.
+-- The listing of a list with one entry more, by recursion on the list, and what follows the line of an entry. Assumes nothing.
 use mathlib.Core.Path.{◌≡◌, refl, ap, ◌∙◌}
 use mathlib.Core.List.{List, [], ◌∷◌, ◌++◌, append_assoc, append-nil}
 use Prim.Native.Nat.{ℕ}
@@ -7,9 +7,7 @@ use Rattle.paper.specs.declared.Entry.TheVariants as entry
 use Rattle.paper.specs.declared.Sheet.{Sheet}
 use Rattle.paper.specs.declared.Seat.{Seat}
 use Rattle.paper.specs.declared.CentreOfGravity.{CentreOfGravity}
-use Rattle.paper.specs.Placard.{feed}
 use Rattle.paper.specs.Answers.{centre_answer}
-use Rattle.wording.specs.Texts.{entry_text}
 use Rattle.listing.specs.Listings.{comment, remark, lines_of, listed_after, listing}
 
 -- the first entries of what is listed behind a list, and the others
@@ -41,8 +39,3 @@ bare_sheet c e s h = rw h
 pub bare_seat : (c : CentreOfGravity) (e : Entry) (f : Seat) → e ≡ entry.Seat f → remark c e ≡ []
 unfolding remark
 bare_seat c e f h = rw h
-
--- the lines of an entry, its text and the line feed apart
-pub lines-parts : (c : CentreOfGravity) (e : Entry) → entry_text e ++ feed ∷ [] ++ remark c e ≡ lines_of c e
-unfolding lines_of
-lines-parts c e = append_assoc (entry_text e) (feed ∷ []) (remark c e)

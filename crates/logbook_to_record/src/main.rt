@@ -2,6 +2,7 @@
 
 // Reads a logbook on standard input and writes its record's file on standard output. Where a line is refused or not
 // understood it writes no file, and says so in a line on standard error.
+use book::{Ending, Reading};
 use record::Record;
 use std::io;
 
@@ -11,7 +12,7 @@ const TEXT: usize = 65536;
 fn write(rt: &impl Print, r: Record) -> io::Result<()> {
     let mut out = [0u8; file::LONGEST];
     let w = file::write(r, &mut out);
-    lines::text(rt, lines::between(&out, 0, w.length))
+    rt.write_all(lines::first(&out, w.length))
 }
 
 // The buffer has one byte more than a logbook may have, which tells a longer input.
@@ -21,12 +22,9 @@ fn main(rt: HostRuntime) -> io::Result<()> {
     if TEXT < n {
         return notice::too_long(&rt.stderr(), TEXT);
     }
-    let b = book::read(&input[..n]);
-    let log = b.log;
-    let ending = b.ending;
-    notice::ending(&rt.stderr(), ending)?;
-    if let book::Ending::Whole = ending {
-        write(&rt, log)?;
+    let Reading { log, ending } = book::read(&input[..n]);
+    match ending {
+        Ending::Whole => write(&rt, log),
+        _ => notice::ending(&rt.stderr(), ending),
     }
-    Ok(())
 }

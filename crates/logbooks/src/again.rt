@@ -1,18 +1,14 @@
 // A record's file as text, and back.
+use lines::first;
 use record::Record;
 
-// The logbook that the listing of a file is, read to a record.
-fn through_text(s: &[u8]) -> Record {
-    let k = file::read(Record::fresh(), s);
-    let mut out = [0u8; listing::LONGEST];
-    let w = listing::show(k.log, &mut out);
-    let b = book::read(lines::between(&out, 0, w.length));
-    b.log
-}
-
-// Whether the file of that record is s again.
+// Whether a file is the same again once its listing, a logbook, is read to a record.
 pub fn same_again(s: &[u8]) -> bool {
+    let k = file::read(Record::fresh(), s);
+    let mut text = [0u8; listing::LONGEST];
+    let shown = listing::show(k.log, &mut text);
+    let b = book::read(first(&text, shown.length));
     let mut out = [0u8; file::LONGEST];
-    let w = file::write(through_text(s), &mut out);
-    lines::between(&out, 0, w.length) == s
+    let w = file::write(b.log, &mut out);
+    first(&out, w.length) == s
 }

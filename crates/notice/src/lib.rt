@@ -4,22 +4,12 @@
 use book::Ending;
 use std::io;
 
-fn line(to: &impl Print, line: usize) -> io::Result<()> {
-    print!(to; "line {line}: ")
-}
-
 // How a logbook ends that is not whole; nothing of one that is.
 pub fn ending(to: &impl Print, x: Ending) -> io::Result<()> {
     match x {
         Ending::Whole => Ok(()),
-        Ending::Refused(at, number) => {
-            line(to, at)?;
-            lines::refused(to, number)
-        }
-        Ending::NotUnderstood(at) => {
-            line(to, at)?;
-            println!(to; "not understood")
-        }
+        Ending::Refused(line, number) => println!(to; "line {line}: refused {number}"),
+        Ending::NotUnderstood(line) => println!(to; "line {line}: not understood"),
     }
 }
 

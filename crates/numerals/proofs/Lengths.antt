@@ -1,15 +1,19 @@
--- How many digits a number takes: by the digits that are left when the last is taken off. Assumes nothing.
-use mathlib.Core.Path.{◌≡◌}
+-- How many digits a number takes, and which: by the digits that are left when the last is taken off. Assumes nothing.
+use mathlib.Core.Path.{◌≡◌, sym, ap}
+use mathlib.Core.List.{List, [], ◌∷◌, ◌++◌}
 use mathlib.Core.Bool.{Bool, true, false, cond}
-use Prim.Native.Nat.{ℕ, zero, suc, ◌+◌, ◌-◌, ◌/◌, ◌^◌, ◌≤◌, ◌<◌}
+use Prim.Native.Nat.{ℕ, zero, suc, ◌+◌, ◌/◌, ◌%◌, ◌^◌, ◌≤◌, ◌<◌}
 use native.Mathlib.Decide.{dec_le}
-use native.Mathlib.Nat.{pow-suc}
+use native.Mathlib.Nat.{pow-suc, mod-eq_of_lt}
 use native.Mathlib.Omega.{arith}
 use lib.Dec.{leb}
 use lib.ListN.{length}
 use borrow.Author.Tests.{le-leb, lt-leb}
+use Rattle.std.specs.Fmt.{decimal as std-decimal}
+use Rattle.std.proofs.lemmas.Fmt.{decimal_by_steps}
+use Rattle.paper.specs.Placard.{nought}
 use Rattle.numerals.specs.Numerals.{places_in, places, decimal}
-use Rattle.numerals.proofs.Digits.{length_digits}
+use Rattle.numerals.proofs.Digits.{length_digits, digits_none, digits_last}
 
 pub length-decimal : (n : ℕ) → length (decimal n) ≡ places n
 unfolding decimal
@@ -68,31 +72,34 @@ places_small (suc k) (suc j) n h =
       | no l ↦ rw (places_one (suc k) n (omega arith)) (omega arith)
     ]
 
--- ---- the loop that counts them: k are counted, and `rest` is the number without the others
-
-abbrev pub Counted : ℕ → ℕ → ℕ → Type 0
-Counted n k rest = (1 ≤ k) × (k ≤ 20) × (rest < 10 ^ (21 - k)) × (k + places_in (20 - k) rest ≡ suc (places n))
-
-pub count_none : (n : ℕ) → n < 10 ^ 20 → Counted n 1 n
-count_none n h = (omega arith, omega arith, h, omega arith)
-
--- two digits or more are left before the last place only
-counts_on : (k rest : ℕ) → k ≤ 20 → rest < 10 ^ (21 - k) → 10 ≤ rest → k ≤ 19
-counts_on k rest l b h =
-    elim (dec_le k 19) as (λ d. k ≤ 19) [
-      | yes m ↦ m
-      | no m ↦ let e : 21 - k ≡ 1 = omega arith in absurd (omega (arith, rw e at b))
+-- one place more than enough makes no difference
+places_enough : (k n : ℕ) → n < 10 ^ suc k → places_in (suc k) n ≡ places_in k n
+places_enough zero n h = rw (places_one 1 n (omega arith), places_one 0 n (omega arith))
+places_enough (suc k) n h =
+    let e = pow-suc 10 (suc k) in
+    elim (dec_le 10 n) as (λ d. places_in (suc (suc k)) n ≡ places_in (suc k) n) [
+      | yes l ↦ rw (places-more (suc k) n l, places-more k n l) (ap suc (places_enough k (n / 10) (omega arith)))
+      | no l ↦ rw (places_one (suc (suc k)) n (omega arith), places_one (suc k) n (omega arith))
     ]
 
-pub count_more : (n k rest : ℕ) → Counted n k rest → 10 ≤ rest → Counted n (k + 1) (rest / 10)
-count_more n k rest c h =
-    let l : k ≤ 19 = counts_on k rest c.1 c.2 h in
-    let e : 20 - k ≡ suc (20 - (k + 1)) = omega arith in
-    let f : 21 - k ≡ suc (21 - (k + 1)) = omega arith in
-    let p = pow-suc 10 (21 - (k + 1)) in
-    let b = rw (f, p) at c.2 in
-    let q = rw (e, places-more (20 - (k + 1)) rest h) at c.3 in
-    (omega arith, omega arith, omega (arith, b), omega (arith, q))
+-- ---- the last digit, and what stands before it
 
-pub count_all : (n k rest : ℕ) → Counted n k rest → rest < 10 → k ≡ places n
-count_all n k rest c h = omega (arith, c.3, places_one (20 - k) rest h)
+decimal_one : (n : ℕ) → n < 10 → decimal n ≡ (nought + n) ∷ []
+unfolding decimal
+decimal_one n h = rw (places_one 19 n h, digits_last 0 n, digits_none (n / 10), mod-eq_of_lt h)
+
+decimal-more : (n : ℕ) → 10 ≤ n → n < 10 ^ 20 → decimal n ≡ decimal (n / 10) ++ (nought + n % 10) ∷ []
+unfolding decimal
+decimal-more n h l =
+    rw (places-more 18 n h, ← places_enough 18 (n / 10) (omega arith)) (digits_last (places (n / 10)) n)
+
+-- ---- as std has them
+
+abbrev Same : ℕ → List ℕ → Type 0
+Same n ds = n < 10 ^ 20 → decimal n ≡ ds
+
+same_more : (n : ℕ) (ds : List ℕ) → 10 ≤ n → Same (n / 10) ds → Same n (ds ++ (48 + n % 10) ∷ [])
+same_more n ds h s l = rw (decimal-more n h l, s (omega arith))
+
+pub decimal_same : (n : ℕ) → n < 2 ^ 64 → std-decimal n ≡ decimal n
+decimal_same n h = sym (decimal_by_steps Same (λ n h l. decimal_one n h) same_more n h (omega arith))

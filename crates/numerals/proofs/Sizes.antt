@@ -1,7 +1,8 @@
 -- The number of some digits, which is read in base 10. Assumes nothing.
 use mathlib.Core.Path.{◌≡◌, refl, sym, ap, ◌∙◌}
 use mathlib.Core.List.{List, [], ◌∷◌}
-use Prim.Native.Nat.{ℕ, ◌+◌, ◌*◌, ◌^◌, ◌≤◌, ◌<◌}
+use Prim.Native.Nat.{ℕ, ◌+◌, ◌*◌, ◌^◌, ◌≤◌, ◌<◌, min}
+use native.Mathlib.Decide.{dec_le}
 use native.Mathlib.Nat.{zero-lt-suc, pow-suc, pow-le-pow_right}
 use native.Mathlib.Numerals.{add-one}
 use native.Mathlib.Omega.{arith}
@@ -33,36 +34,32 @@ size_below xs =
 -- ---- the loop that reads them: n is the number of the first i
 
 abbrev pub Read : List ℕ → ℕ → ℕ → Type 0
-Read s n i = (i ≤ most_digits) × (i ≤ length s) × (n < 10 ^ i) × (n ≡ size_of (take i s))
+Read s n i = (i ≤ length s) × (n < 10 ^ i) × (n ≡ size_of (take i s))
 
 pub read_none : (s : List ℕ) → Read s 0 0
 unfolding size_of
-read_none s = (omega arith, omega arith, omega arith, refl)
+read_none s = (omega arith, omega arith, refl)
 
 -- seventeen digits leave room for one more
-pub read_room : (s : List ℕ) (n i : ℕ) → Read s n i → i < most_digits → n < 10 ^ 17
-read_room s n i r h = omega (arith, r.2, pow-le-pow_right {n = 10} (zero-lt-suc 9) {i = i} {j = 17} (omega arith))
+pub read_room : (s : List ℕ) (n i : ℕ) → Read s n i → i < length s → length s ≤ most_digits → n < 10 ^ 17
+read_room s n i r l h = omega (arith, r.1, pow-le-pow_right {n = 10} (zero-lt-suc 9) {i = i} {j = 17} (omega arith))
 
-pub read_one : (s : List ℕ) (n i x : ℕ) → Read s n i → i < most_digits → i < length s → x ≡ digit_of (get_or s i 0) → Read s (n * 10 + x) (i + 1)
-read_one s n i x r h l e = (
+pub read_one : (s : List ℕ) (n i x : ℕ) → Read s n i → i < length s → x ≡ digit_of (get_or s i 0) → Read s (n * 10 + x) (i + 1)
+read_one s n i x r l e = (
   omega arith,
-  omega arith,
-  rw (add-one i, pow-suc 10 i) (digits_lt r.2 (rw e (digit_small (get_or s i 0)))),
-  rw (add-one i, take-suc s i 0 l, read_more reading (take i s) (get_or s i 0), r.3, e),
+  rw (add-one i, pow-suc 10 i) (digits_lt r.1 (rw e (digit_small (get_or s i 0)))),
+  rw (add-one i, take-suc s i 0 l, read_more reading (take i s) (get_or s i 0), r.2, e),
 )
 
-abbrev pub Whole : List ℕ → ℕ → Type 0
-Whole s n = (n ≡ size_of (take most_digits s)) × (n < 10 ^ most_digits)
+-- the digits that are looked at, as the code takes them
+pub head_taken : (s : List ℕ) (k : ℕ) → k ≡ min (length s) most_digits → take k s ≡ take most_digits s
+head_taken s k e =
+    elim (dec_le (length s) most_digits) as (λ d. take k s ≡ take most_digits s) [
+      | yes l ↦ take_all k s (omega arith) ∙ sym (take_all most_digits s l)
+      | no l ↦ let f : k ≡ most_digits = omega arith in rw f
+    ]
 
-whole : (s : List ℕ) (n i : ℕ) → Read s n i → take i s ≡ take most_digits s → Whole s n
-whole s n i r e =
-    let f : n ≡ size_of (take most_digits s) = r.3 ∙ ap size_of e in
+pub read_all : (s : List ℕ) (n k i : ℕ) → k ≡ min (length s) most_digits → Read (take k s) n i → length (take k s) ≤ i → (n ≡ size_of (take most_digits s)) × (n < 10 ^ most_digits)
+read_all s n k i e r h =
+    let f : n ≡ size_of (take most_digits s) = r.2 ∙ ap size_of (take_all i (take k s) h ∙ head_taken s k e) in
     (f, omega (arith, f, size_below s))
-
--- eighteen digits
-pub read_most : (s : List ℕ) (n i : ℕ) → Read s n i → most_digits ≤ i → Whole s n
-read_most s n i r h = let e : i ≡ most_digits = omega arith in whole s n i r (rw e)
-
--- all that there are
-pub read_all : (s : List ℕ) (n i : ℕ) → Read s n i → length s ≤ i → Whole s n
-read_all s n i r h = whole s n i r (take_all i s h ∙ sym (take_all most_digits s (omega arith)))

@@ -1,73 +1,42 @@
 #![tactic(auto)]
 
-// Whole numbers as words of text: written in decimal, and read.
-ghost use Rattle.std.specs.Prelude.{◌≡◌, ◌+◌, ◌≤◌, ◌<◌, ◌^◌, length, take};
-ghost use Rattle.laws.specs.Written.{written};
-ghost use Rattle.paper.specs.Placard.{digits};
-ghost use Rattle.numerals.specs.Numerals.{places as places_of, decimal, numeral, digit_of, size_of, most_digits, value_of};
+// Whole numbers as words of text: written in decimal, and read. `itoa` prints the digits, since std's `write!` promises its bytes
+// only where it answers `Ok`, and not that it does.
+ghost use Rattle.std.specs.Prelude.{◌≡◌, ◌++◌, ◌+◌, ◌≤◌, ◌<◌, ◌^◌, length, take};
+ghost use Rattle.arrayvec.specs.ArrayString.{array_string_len};
+ghost use Rattle.numerals.specs.Numerals.{decimal, numeral, digit_of, size_of, most_digits, value_of};
+
+use arrayvec::ArrayString;
+use itoa::Buffer;
 
 // The most digits that a number has when it is read.
 const DIGITS: usize = 18;
 
-// The last k decimal digits of n, from a place on.
-pub fn put_digits(out: &mut [u8], at: usize, k: usize, n: u64)
-    requires { at + k ≤ length out.old }
-    ensures { out.new ≡ written out.old at (digits k n) }
+// Writes a size behind what stands in a text.
+pub fn put_size<const N: usize>(text: &mut ArrayString<N>, n: u64)
+    requires { array_string_len text.old + length (decimal n) ≤ N }
+    ensures { text.new.bytes ≡ text.old.bytes ++ decimal n }
 {
-    let mut left = k;
-    let mut rest = n;
-    while 0 < left {
-        left -= 1;
-        out[at + left] = b'0' + (rest % 10) as u8;
-        rest = rest / 10;
-    }
+    text.push_str(Buffer::new().format(n));
 }
 
-// How many digits a number takes.
-fn places(n: u64) -> usize
-    ensures { result ≡ places_of n }
-{
-    let mut k = 1;
-    let mut rest = n;
-    while 9 < rest {
-        rest /= 10;
-        k += 1;
-    }
-    k
-}
-
-// A size from a place on. The answer is the place behind it.
-pub fn put_size(out: &mut [u8], at: usize, n: u64) -> usize
-    requires { at + length (decimal n) ≤ length out.old }
-    ensures { (result ≡ at + length (decimal n)) × (out.new ≡ written out.old at (decimal n)) }
-{
-    let k = places(n);
-    put_digits(out, at, k, n);
-    at + k
-}
-
-// A number from a place on, with a minus in front of one below 0. The answer is the place behind it.
-pub fn put_number(out: &mut [u8], at: usize, x: i64) -> usize
-    requires { at + length (numeral x) ≤ length out.old }
-    ensures { (result ≡ at + length (numeral x)) × (out.new ≡ written out.old at (numeral x)) }
+// Writes a number there, with a minus in front of one below 0.
+pub fn put_number<const N: usize>(text: &mut ArrayString<N>, x: i64)
+    requires { array_string_len text.old + length (numeral x) ≤ N }
+    ensures { text.new.bytes ≡ text.old.bytes ++ numeral x }
 {
     if x < 0 {
-        out[at] = b'-';
-        put_size(out, at + 1, laws::under(x) + 1)
-    } else {
-        put_size(out, at, laws::size(x))
+        text.push('-');
     }
+    put_size(text, x.unsigned_abs());
 }
 
 // What a digit counts.
+#[tactic(auto, unfolding(crate::specs::Numerals::digit_of))]
 fn digit(x: u8) -> u64
     ensures { (result ≡ digit_of x) × (result < 10) }
 {
-    if x < b'0' {
-        0
-    } else {
-        ((x - b'0') % 10) as u64
-    }
+    u64::from(x.saturating_sub(b'0') % 10)
 }
 
 // The number of the first eighteen digits.
@@ -75,21 +44,18 @@ fn size_of(s: &[u8]) -> u64
     ensures { (result ≡ size_of (take most_digits s.now)) × (result < 10 ^ most_digits) }
 {
     let mut n = 0;
-    let mut i = 0;
-    while i < DIGITS && i < s.len() {
-        n = n * 10 + digit(s[i]);
-        i += 1;
+    for x in &s[..s.len().min(DIGITS)] {
+        n = n * 10 + digit(*x);
     }
     n
 }
 
-// The number of a word.
+// The number of a word. Not `parse`: a word that is no number has one here too.
 pub fn number_of(s: &[u8]) -> i64
     ensures { result ≡ value_of s.now }
 {
-    if 0 < s.len() && s[0] == b'-' {
-        0 - size_of(&s[1..]) as i64
-    } else {
-        size_of(s) as i64
+    match s.strip_prefix(b"-") {
+        Some(digits) => -(size_of(digits) as i64),
+        None => size_of(s) as i64,
     }
 }

@@ -1,24 +1,18 @@
 #![tactic(auto)]
 
-// The placard of a balance and a sheet: a line for each row, into a lent buffer.
-ghost use Rattle.std.specs.Prelude.{◌≡◌, false, List, ◌*◌, ◌≤◌, length};
-ghost use Rattle.std.proofs.Math.Option.{some};
+// The placard of what stands: a line for each row, into a lent buffer.
+ghost use Rattle.std.specs.Prelude.{◌≡◌, List, ◌*◌, ◌≤◌, length};
 ghost use Rattle.laws.specs.Written.{written};
-ghost use Rattle.paper.specs.declared.Sheet.{Sheet};
-ghost use Rattle.paper.specs.declared.Seat.{Seat};
-ghost use Rattle.paper.specs.declared.Entry.{Entry};
 ghost use Rattle.paper.specs.Rows.{row_count};
 ghost use Rattle.paper.specs.Placard.{text, line_length, blank_count};
-ghost use Rattle.paper.specs.Refusals.{first_number, sheet_faults, bad_ends};
 ghost use Rattle.paper.specs.Answers.{placard_answer};
-ghost use Rattle.seat.specs.InForce.{found, in_force};
 ghost use Rattle.balance.specs.Balance.{plain, Bounded};
-ghost use Rattle.judge.specs.Standing.{stands_in, plainly, Sound};
+ghost use Rattle.judge.specs.Standing.{stands_in, plainly};
 
 use balance::Balance;
 use group::{LINE, Terms, WATERS};
-use judge::{Standing, Weighed};
-use paper::{Placard, Seat, Sheet};
+use judge::Standing;
+use paper::{Placard, Refusal};
 use seat::InForce;
 
 // A line for each row, and how many of them are blank.
@@ -47,41 +41,18 @@ fn row_count(force: &InForce) -> usize
     laws::times(sheet::loads(s.rear), sheet::loads(s.water)) as usize
 }
 
-// A refusal: all but the number is 0.
-fn refused(number: u64) -> Placard
-    ensures { result ≡ record { number = number; bytes = 0; rows = 0; blank = 0 } }
+// The placard of what stands: 7 before a weighing, 8 without a sheet, 11 where the buffer is too short, and then no byte of it
+// changes.
+pub fn answer(standing: &Standing, out: &mut [u8]) -> Result<Placard, Refusal>
+    ensures { (es : List _) → plainly standing.now ≡ stands_in es → (result, out.new) ≡ placard_answer es out.old }
 {
-    Placard {
-        number,
-        bytes: 0,
-        rows: 0,
-        blank: 0,
-    }
-}
-
-// The placard of what stands and what is in force: 7 before a weighing, 8 without a sheet, 11 where the buffer is too
-// short, and then no byte of it changes.
-pub fn answer(standing: Standing, sheet: InForce, out: &mut [u8]) -> Placard
-    requires { Sound 1024 standing × ((s : Sheet) (f : Seat) → found sheet ≡ some (s, f) → (first_number (sheet_faults s) ≡ 0) × (bad_ends f ≡ false)) }
-    ensures { (es : List Entry) → plainly standing ≡ stands_in es → found sheet ≡ in_force es → (result ≡ (placard_answer es out.old).0) × (out.new ≡ (placard_answer es out.old).1) }
-{
-    let last = standing.weighed;
-    let Weighed::Balance(b) = last else {
-        return refused(7);
-    };
-    let InForce::Found(s, f) = sheet else {
-        return refused(8);
-    };
-    let rows = row_count(s);
+    let b = standing.balance.ok_or(Refusal::NoWeighing)?;
+    let force = standing.force.ok_or(Refusal::NoSheet)?;
+    let rows = row_count(&force);
     let bytes = LINE * rows;
     if out.len() < bytes {
-        return refused(11);
+        return Err(Refusal::ShortBuffer);
     }
-    let blank = put_rows(s, f, b, out);
-    Placard {
-        number: 0,
-        bytes,
-        rows,
-        blank,
-    }
+    let blank = put_rows(&force, b, out);
+    Ok(Placard { bytes, rows, blank })
 }

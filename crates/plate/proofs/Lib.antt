@@ -1,3 +1,2 @@
--- What the proofs share: a sheet with the longest placard, and what is in force.
+-- What the proofs share: a sheet with the longest placard.
 pub mod Lengths
-pub mod Forces

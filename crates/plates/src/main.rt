@@ -11,6 +11,7 @@
 // ones. Then comes the placard: its lines, or of more than twelve the first, the last and the sum of the bytes.
 mod report;
 
+use script::calls::each_line;
 use std::io;
 
 // All cases.
@@ -19,5 +20,5 @@ const CASES: usize = 65536;
 fn main(rt: HostRuntime) -> io::Result<()> {
     let mut input = [0u8; CASES];
     let n = lines::read_full(&mut rt.reader(), &mut input)?;
-    report::each(&rt, &input[..n])
+    each_line(&input[..n], |log, line| report::tried(&rt, log, line))
 }

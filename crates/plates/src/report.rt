@@ -1,75 +1,54 @@
 // A line of output for each line of cases, and the placard.
-use lines::{between, sum, text, unsigned, unwritten};
+use lines::{first, lent, sum, unwritten};
 use paper::Placard;
-use record::{Kept, Record};
-use script::calls::played;
-use script::texts::{byte_at, digits, place_of};
+use record::Record;
+use script::calls::{head_and_calls, played};
+use script::texts::{digits, split_once};
 use std::io;
 
-// The placard into the first n bytes.
-fn placard_first(r: Record, out: &mut [u8], n: usize) -> Placard {
-    if n <= out.len() {
-        return plate::placard(r, &mut out[0..n]);
-    }
-    plate::placard(r, out)
-}
+// How many bytes a line has, and how many the longest placard that is printed whole.
+const LINE: usize = 36;
 
-// A number behind a text.
-fn number(rt: &impl Print, s: &[u8], n: u64) -> io::Result<()> {
-    text(rt, s)?;
-    unsigned(rt, n)
-}
+const SHORT: usize = 432;
 
-fn lines_of(rt: &impl Print, s: &[u8]) -> io::Result<()> {
-    if s.len() <= 432 {
-        return text(rt, s);
+// The most bytes that are lent, and those behind them that are looked at.
+const ROOM: usize = 9232;
+
+const BEHIND: usize = 16;
+
+// The placard, or where it is longer its first line, its last and the sum of its bytes.
+fn printed(rt: &impl Print, placard: &[u8]) -> io::Result<()> {
+    if placard.len() <= SHORT {
+        return rt.write_all(placard);
     }
-    text(rt, between(s, 0, 36))?;
-    text(rt, between(s, s.len().wrapping_sub(36), s.len()))?;
-    number(rt, b"sum ", sum(s))?;
-    text(rt, b"\n")
+    rt.write_all(first(placard, LINE))?;
+    rt.write_all(&placard[placard.len() - LINE..])?;
+    println!(rt; "sum {}", sum(placard))
 }
 
 // The rest of a line of output behind its label, and the placard into n bytes.
-fn answered(rt: &impl Print, k: Kept, n: usize) -> io::Result<()> {
-    let mut out = [0xAAu8; 9248];
-    let p = placard_first(k.log, &mut out, n);
-    number(rt, b": ", k.number)?;
-    number(rt, b"; ", p.number)?;
-    number(rt, b" ", p.bytes as u64)?;
-    number(rt, b" ", p.rows as u64)?;
-    number(rt, b" ", p.blank as u64)?;
-    number(
-        rt,
-        b"; ",
-        unwritten(between(&out, p.bytes, n.wrapping_add(16))),
-    )?;
-    text(rt, b"\n")?;
-    lines_of(rt, between(&out, 0, p.bytes))
+fn answered(rt: &impl Print, number: u64, log: Record, n: usize) -> io::Result<()> {
+    let mut out = [0xAAu8; ROOM + BEHIND];
+    let answer = plate::placard(log, lent(&mut out, n));
+    let Placard {
+        number: refused,
+        bytes,
+        rows,
+        blank,
+    } = answer;
+    let left = unwritten(out.get(bytes..n.saturating_add(BEHIND)).unwrap_or(&out));
+    println!(rt; ": {number}; {refused} {bytes} {rows} {blank}; {left}")?;
+    printed(rt, first(&out, bytes))
 }
 
-// A line; the answer is the record that it leaves.
-fn tried(rt: &impl Print, r: Record, line: &[u8]) -> io::Result<Record> {
-    if byte_at(line, 0) == b'#' {
-        return Ok(r);
+// A line, which changes the record.
+pub fn tried(rt: &impl Print, log: &mut Record, line: &[u8]) -> io::Result<()> {
+    if line.starts_with(b"#") {
+        return Ok(());
     }
-    let space = place_of(line, b' ');
-    let colon = place_of(line, b':');
-    let k = played(r, between(line, colon.wrapping_add(2), line.len()));
-    text(rt, between(line, space.wrapping_add(1), colon))?;
-    answered(rt, k, digits(line, 0) as usize)?;
-    Ok(k.log)
-}
-
-// The lines in turn, each with its line feed.
-pub fn each(rt: &impl Print, s: &[u8]) -> io::Result<()> {
-    let mut log = Record::fresh();
-    let mut from = 0;
-    for i in 0..s.len() {
-        if s[i] == b'\n' {
-            log = tried(rt, log, between(s, from, i + 1))?;
-            from = i + 1;
-        }
-    }
-    Ok(())
+    let (head, calls) = head_and_calls(line);
+    let last = played(*log, calls);
+    *log = last.log;
+    rt.write_all(split_once(head, b' ').map_or(line, |(_, label)| label))?;
+    answered(rt, last.number, last.log, digits(line) as usize)
 }

@@ -1,47 +1,88 @@
 // The record's calls by letters.
-use crate::reread;
-use crate::sample::{change, lax_sheet, ordinary_sheet, paired, seat, weighing};
-use crate::texts::byte_at;
-use lines::between;
+use crate::reread::{G, first_version, read_again};
+use crate::sample::Fields;
+use crate::texts::split_once;
 use record::{Kept, Record};
+use std::io;
 
-fn fresh() -> Kept {
-    let log = Record::fresh();
+// The fields of an ordinary entry of each kind.
+const WEIGHING: &[u8] = b"m1 p300000 q30000 a10000 b500000 n100000";
+
+const HANGING: &[u8] = b"m3 p355 q90 a50 b13350 n0";
+
+const LIGHT: &[u8] = b"m1 p200000 q0 a0 b1 n100000";
+
+const PAIRED: &[u8] = b"m1 p300000 q30000 P300001 Q30010 a10000 b500000 n100000";
+
+// A sheet of nine rows.
+const SHEET: &[u8] = b"F25000 A42500 D380000 W450000 N240000 l55000 \
+    a-47500 m110000 s1000 b10000 n100000 t50000 c30000 o100000 u50000";
+
+// A sheet of one row that limits nothing but the front load.
+const LAX_SHEET: &[u8] =
+    b"F-2000000 A2000000 D2000000 W2000000 N0 l0 a0 m500000 s1000 b0 n0 t1 c0 o0 u1";
+
+const CHANGE: &[u8] = b"c1000 a5000 f0";
+
+const SEAT: &[u8] = b"l-50000 h-45000";
+
+// What a call that is accepted leaves.
+fn accepted(log: Record) -> Kept {
     Kept { number: 0, log }
 }
 
 // A call: its letter, and the fields that stand behind it.
 fn called(r: Record, call: &[u8]) -> Kept {
-    let letter = byte_at(call, 0);
-    let other = between(call, 1, call.len());
-    match letter {
-        b'w' => r.weigh(weighing(b"m1 p300000 q30000 a10000 b500000 n100000", other)),
-        b'v' => r.weigh(weighing(b"m3 p355 q90 a50 b13350 n0", other)),
-        b'u' => r.weigh(weighing(b"m1 p200000 q0 a0 b1 n100000", other)),
-        b'p' => r.weigh_paired(paired(other)),
-        b's' => r.install(ordinary_sheet(other)),
-        b'l' => r.install(lax_sheet(other)),
-        b'c' => r.change(change(other)),
-        b'a' => r.adjust_seat(seat(other)),
-        b'r' => reread::read_again(r),
-        b'g' => reread::read_g(r, 2, 89),
-        b'x' => reread::read_g(r, 2, 88),
-        b'o' => reread::read_g(r, 1, 89),
+    let [letter, other @ ..] = call else {
+        return accepted(Record::fresh());
+    };
+    let by = |ordinary| Fields { ordinary, other };
+    match *letter {
+        b'w' => r.weigh(by(WEIGHING).weighing()),
+        b'v' => r.weigh(by(HANGING).weighing()),
+        b'u' => r.weigh(by(LIGHT).weighing()),
+        b'p' => r.weigh_paired(by(PAIRED).paired()),
+        b's' => r.install(by(SHEET).sheet()),
+        b'l' => r.install(by(LAX_SHEET).sheet()),
+        b'c' => r.change(by(CHANGE).change()),
+        b'a' => r.adjust_seat(by(SEAT).seat()),
+        b'r' => read_again(r),
+        b'g' => file::read(r, &G),
+        b'x' => file::read(r, &G[..88]),
+        b'o' => file::read(r, &first_version()),
         b'-' => r.undo(),
-        _ => fresh(),
+        _ => accepted(Record::fresh()),
     }
 }
 
-// Calls one after the other; a comma or a line feed ends each. The answer is the last one's.
+// Calls one after the other, a comma or a line feed behind each. The answer is the last one's.
 pub fn played(r: Record, calls: &[u8]) -> Kept {
-    let mut k = Kept { number: 0, log: r };
-    let mut from = 0;
-    for i in 0..calls.len() {
-        let x = calls[i];
-        if x == b',' || x == b'\n' {
-            k = called(k.log, between(calls, from, i));
-            from = i + 1;
+    calls
+        .split_inclusive(|x| *x == b',' || *x == b'\n')
+        .fold(accepted(r), |k, call| called(k.log, call))
+}
+
+// What stands before the colon of a line, and the calls behind the colon and a space. A line with no colon is both.
+pub fn head_and_calls(line: &[u8]) -> (&[u8], &[u8]) {
+    if let Some((head, [_, calls @ ..])) = split_once(line, b':') {
+        (head, calls)
+    } else {
+        (line, line)
+    }
+}
+
+// The lines of a text in turn, each with its line feed, and the record that goes from each to the next, a fresh one at first.
+pub fn each_line<F: FnMut(&mut Record, &[u8]) -> io::Result<()>>(
+    s: &[u8],
+    mut act: F,
+) -> io::Result<()>
+    requires { F.IsAlwaysCallable act }
+{
+    let mut log = Record::fresh();
+    for line in s.split_inclusive(|x| *x == b'\n') {
+        if line.ends_with(b"\n") {
+            act(&mut log, line)?;
         }
     }
-    k
+    Ok(())
 }

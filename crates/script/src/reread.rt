@@ -1,9 +1,9 @@
-// Reading back.
-use lines::between;
+// Files that are read.
+use lines::first;
 use record::{Kept, Record};
 
 // The file of case G.
-const G: [u8; 89] = *b"\x00\x00\x00\x55\x02\x02\
+pub const G: [u8; 89] = *b"\x00\x00\x00\x55\x02\x02\
     \x01\x01\x00\x04\x65\x00\x00\x00\x00\x00\x00\x00\xF7\x66\x00\x07\xA1\x20\x00\x02\x22\xE0\
     \x02\x00\x00\x61\xA8\x00\x00\xA6\x04\x00\x05\xCC\x60\x00\x06\xDD\xD0\x00\x03\xA9\x80\
     \xFF\xFF\x46\x74\x00\x00\xD6\xD8\x00\x01\xAD\xB0\x00\x00\x03\xE8\
@@ -13,12 +13,12 @@ const G: [u8; 89] = *b"\x00\x00\x00\x55\x02\x02\
 pub fn read_again(r: Record) -> Kept {
     let mut out = [0u8; file::LONGEST];
     let w = file::write(r, &mut out);
-    file::read(Record::fresh(), between(&out, 0, w.length))
+    file::read(Record::fresh(), first(&out, w.length))
 }
 
-// The first bytes of G's file, in a version, read into a record.
-pub fn read_g(r: Record, version: u8, n: usize) -> Kept {
+// G's file in version 1.
+pub fn first_version() -> [u8; 89] {
     let mut s = G;
-    s[4] = version;
-    file::read(r, between(&s, 0, n))
+    s[4] = 1;
+    s
 }

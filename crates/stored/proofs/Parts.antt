@@ -5,7 +5,10 @@ use Prim.Native.Nat.{ℕ, ◌+◌, ◌-◌, ◌≤◌, ◌<◌}
 use native.Mathlib.Omega.{arith}
 use lib.ListN.{length, drop, length-append}
 use borrow.Author.Tests.{lt-ltb, le-ltb}
+use Rattle.std.specs.Prelude.{Ok, Err}
 use Rattle.paper.specs.declared.Entry.{Entry}
+use Rattle.paper.specs.declared.Refusal.TheVariants as refusal
+use Rattle.paper.specs.Numbers.{refusal_of}
 use Rattle.paper.specs.File.{bytes_of, body_as, file_as, version, file_bytes}
 use Rattle.paper.specs.Refusals.{first_number, writing_number}
 use Rattle.paper.specs.Answers.{over, written_by, written_answer}
@@ -34,10 +37,10 @@ entries_behind v es r = refl
 
 -- ---- what writing answers
 
-pub too_short : (es : List Entry) (s : List ℕ) → length s < length (file_bytes es) → written_answer es s ≡ (record { number = 11; length = 0 }, s)
-unfolding written_answer written_by writing_number first_number
+pub too_short : (es : List Entry) (s : List ℕ) → length s < length (file_bytes es) → written_answer es s ≡ (Err refusal.ShortBuffer, s)
+unfolding written_answer written_by writing_number first_number refusal_of
 too_short es s h = rw (lt-ltb (length s) (length (file_bytes es)) h)
 
-pub long_enough : (es : List Entry) (s : List ℕ) → length (file_bytes es) ≤ length s → written_answer es s ≡ (record { number = 0; length = length (file_bytes es) }, over (file_bytes es) s)
+pub long_enough : (es : List Entry) (s : List ℕ) → length (file_bytes es) ≤ length s → written_answer es s ≡ (Ok (length (file_bytes es)), over (file_bytes es) s)
 unfolding written_answer written_by writing_number first_number
 long_enough es s h = rw (le-ltb (length s) (length (file_bytes es)) h)

@@ -8,26 +8,16 @@ ghost use Rattle.stored.specs.Kinds.{entries_to, walk_to};
 ghost use Rattle.stored.specs.Found.{Finds};
 
 use header::HEADER;
-use judge::{Judged, Standing, Weighed};
+use judge::Standing;
 use paper::{CAPACITY, Entry, Kind};
-use seat::InForce;
 
-// What stands in the file of a record: how many entries, their balance, what is in force, the place of the last entry (behind
-// the header where there is none) and the place behind it.
+// What the file of a record says: what stands in it, the place of the last entry (behind the header where there is none) and the
+// place behind it.
 #[derive(Clone, Copy)]
 pub struct Contents {
-    pub count: usize,
     pub standing: Standing,
-    pub sheet: InForce,
     pub last: usize,
     pub end: usize,
-}
-
-// What some bytes are: the file of a record, or none.
-#[derive(Clone, Copy)]
-pub enum Stored {
-    Nothing,
-    File(Contents),
 }
 
 // The entry at a place, where it is of a kind up to `kinds`.
@@ -43,58 +33,38 @@ pub fn entry_to(s: &[u8], at: usize, kinds: Kind) -> Option<(Entry, usize)>
 
 // What stands behind the header, judged entry by entry: just as many entries as the count says, none of a kind above `kinds`,
 // and no byte over.
-fn survey_entries(s: &[u8], kinds: Kind, count: usize) -> Stored
+fn survey_entries(s: &[u8], kinds: Kind, count: usize) -> Option<Contents>
     ensures { Finds (entries_to (code_of kinds) count (drop 6 s.now)) result }
 {
-    let mut standing = Standing {
-        weighed: Weighed::Never,
-        sheet: 0,
-    };
-    let mut sheet = InForce::Nothing;
+    let mut standing = Standing::new();
     let mut last = HEADER;
-    let mut at = HEADER;
-    let mut i = 0;
-    while i < count {
-        let Some((entry, place)) = entry_to(s, at, kinds) else {
-            return Stored::Nothing;
-        };
-        let Judged::Accepted(next) = judge::judge(i, standing, entry) else {
-            return Stored::Nothing;
-        };
-        standing = next;
-        last = at;
-        at = place;
-        i += 1;
-        match entry {
-            Entry::Weighing(_) => {}
-            Entry::Sheet(t) => sheet = InForce::Found(t, seat::fixed(t)),
-            Entry::Change(_) => {}
-            Entry::Paired(_) => {}
-            Entry::Seat(f) => sheet = seat::moved(sheet, f),
-        }
+    let mut end = HEADER;
+    for _ in 0..count {
+        let (entry, place) = entry_to(s, end, kinds)?;
+        standing.add(entry).ok()?;
+        last = end;
+        end = place;
     }
-    if at < s.len() {
-        return Stored::Nothing;
+    if end < s.len() {
+        return None;
     }
-    Stored::File(Contents {
-        count,
+    Some(Contents {
         standing,
-        sheet,
         last,
-        end: at,
+        end,
     })
 }
 
 // What stands in some bytes, where they are the file of a record.
-pub fn survey(s: &[u8]) -> Stored
+pub fn survey(s: &[u8]) -> Option<Contents>
     ensures { Finds (file_of s.now) result }
 {
     if !header::is_headed(s) {
-        return Stored::Nothing;
+        return None;
     }
     let count = s[5] as usize;
     if CAPACITY < count {
-        return Stored::Nothing;
+        return None;
     }
     survey_entries(s, header::last_kind(s[4]), count)
 }

@@ -7,7 +7,7 @@ ghost use Rattle.paper.specs.Numbers.{code_of};
 ghost use Rattle.paper.specs.File.{entry_of};
 ghost use Rattle.values.specs.Places.{Readable, values_in};
 
-use layout::FIELDS;
+use kinds::{FIELDS, Stored};
 use paper::{Change, Entry, Kind, Paired, Seat, Sheet, Weighing};
 
 // How many values an entry has, and they in the order of the file.
@@ -138,10 +138,10 @@ pub fn entry_of(kind: Kind, v: [i64; FIELDS]) -> Entry
     ensures { result ≡ entry_of (code_of kind) v }
 {
     match kind {
-        Kind::Weighing => Entry::Weighing(kinds::weighing_of(v)),
-        Kind::Sheet => Entry::Sheet(kinds::sheet_of(v)),
-        Kind::Change => Entry::Change(kinds::change_of(v)),
-        Kind::Paired => Entry::Paired(kinds::paired_of(v)),
-        Kind::Seat => Entry::Seat(kinds::seat_of(v)),
+        Kind::Weighing => Weighing::entry_of(&v),
+        Kind::Sheet => Sheet::entry_of(&v),
+        Kind::Change => Change::entry_of(&v),
+        Kind::Paired => Paired::entry_of(&v),
+        Kind::Seat => Seat::entry_of(&v),
     }
 }

@@ -1,12 +1,11 @@
 -- An entry's text in the two parts that the code puts: the kind's name, and the values behind it. Assumes nothing.
-use mathlib.Core.Path.{◌≡◌, refl, ap}
-use mathlib.Core.List.{List, map}
+use mathlib.Core.Path.{◌≡◌, refl, sym}
+use mathlib.Core.List.{List, ◌++◌, map, append_assoc}
 use Prim.Native.Nat.{ℕ, ◌+◌, ◌-◌, ◌≤◌}
 use native.Mathlib.Omega.{arith}
 use lib.IntN.{ℤ, pos}
 use lib.ListN.{length, take, replicate, length-append}
 use lib.Seq.{take_at}
-use Rattle.laws.specs.Written.{written, written-more}
 use Rattle.paper.specs.declared.Entry.{Entry}
 use Rattle.paper.specs.declared.Entry.TheVariants as entry
 use Rattle.paper.specs.File.{kind_of, values_of}
@@ -39,16 +38,12 @@ module _ (e : Entry) (v : Values) (x : v ≡ values_in e) where
   pub count_few : v.count ≤ 15
   count_few = rw x (values_few e)
 
-  -- the values, written behind the name
-  module _ (k : ℕ) (y : k ≡ kind_of e) (at from : ℕ) (f : from ≡ at + length (name_of k)) where
-    pub text_end : (to : ℕ) → to ≡ from + length (values_text (take v.count v.places)) → to ≡ at + length (entry_text e)
-    text_end to g = omega (arith, rw values_held at g, length-text e, ap (λ (j : ℕ). length (name_of j)) y)
+  -- name and values together
+  pub length_parts : length (name_of (kind_of e)) + length (values_text (take v.count v.places)) ≡ length (entry_text e)
+  length_parts = rw values_held (sym (length-text e))
 
-    module _ (s : List ℕ) (h : at + length (entry_text e) ≤ length s) where
-      pub room : from + length (values_text (take v.count v.places)) ≤ length s
-      room = omega (arith, text_end (from + length (values_text (take v.count v.places))) refl)
-
-      pub text-put : (mid last : List ℕ) → mid ≡ written s at (name_of k) → last ≡ written mid from (values_text (take v.count v.places)) → last ≡ written s at (entry_text e)
-      unfolding entry_text
-      text-put mid last m l =
-          rw (l, values_held, m, f, y) (written-more s at (name_of (kind_of e)) (values_text (values_of e)) (omega (arith, length-text e)))
+  -- the name is written, and the values behind it
+  pub text-put : (s next last : List ℕ) → next ≡ s ++ name_of (kind_of e) → last ≡ next ++ values_text (take v.count v.places) → last ≡ s ++ entry_text e
+  unfolding entry_text
+  text-put s next last n l =
+      rw (l, n, values_held) (append_assoc s (name_of (kind_of e)) (values_text (values_of e)))

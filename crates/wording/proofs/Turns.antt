@@ -1,12 +1,12 @@
 -- One value more behind the first i, a space before each. Assumes nothing.
-use mathlib.Core.Path.{◌≡◌, ap, ◌∙◌}
-use mathlib.Core.List.{List, ◌++◌, map}
+use mathlib.Core.Path.{◌≡◌, ap}
+use mathlib.Core.List.{List, [], ◌∷◌, ◌++◌, map, append_assoc}
 use Prim.Native.Nat.{ℕ, ◌+◌, ◌≤◌, ◌<◌}
 use native.Mathlib.Omega.{arith}
 use lib.IntN.{ℤ, pos}
-use lib.ListN.{length, get_or, take, set, length-append}
+use lib.ListN.{length, get_or, take, length-append}
+use lib.Seq.{take_all}
 use Rattle.laws.specs.Lists.{map-take-more}
-use Rattle.laws.specs.Written.{written, length-written, written-more, written_behind}
 use Rattle.paper.specs.Rows.{joined}
 use Rattle.paper.specs.Placard.{space}
 use Rattle.paper.proofs.Lists.{joined-last, joined-part}
@@ -17,30 +17,33 @@ use Rattle.wording.specs.Texts.{spaced}
 abbrev pub values_to : List ℤ → ℕ → List ℕ
 values_to vs i = joined (map spaced (take i vs))
 
--- the first i are among the first c
-pub values_part : (vs : List ℤ) (i c : ℕ) → i ≤ c → length (values_to vs i) ≤ length (values_to vs c)
-values_part = joined-part spaced
+pub values_all : (vs : List ℤ) (i : ℕ) → length vs ≤ i → values_to vs i ≡ joined (map spaced vs)
+values_all vs i h = ap (λ (xs : List ℤ). joined (map spaced xs)) (take_all i vs h)
 
 module _ (vs : List ℤ) (i : ℕ) (h : i < length vs) where
-  -- the value there
-  abbrev value : ℤ
-  value = get_or vs i (pos 0)
+  values_more : values_to vs (i + 1) ≡ values_to vs i ++ spaced (get_or vs i (pos 0))
+  values_more =
+      rw (map-take-more spaced vs i (pos 0) h) (joined-last (map spaced (take i vs)) (spaced (get_or vs i (pos 0))))
 
-  values_more : values_to vs (i + 1) ≡ values_to vs i ++ spaced value
-  values_more = rw (map-take-more spaced vs i (pos 0) h) (joined-last (map spaced (take i vs)) (spaced value))
-
-  -- as the code counts: a space, and the numeral
-  pub counted : (at to : ℕ) → to ≡ at + length (values_to vs i) → to + 1 + length (numeral value) ≡ at + length (values_to vs (i + 1))
-  counted at to e = omega (arith, ap length values_more, length-append (values_to vs i) (spaced value))
-
-  -- they are within what the first c take
-  pub within : (c at to m : ℕ) → i < c → to ≡ at + length (values_to vs i) → at + length (values_to vs c) ≤ m → to + 1 + length (numeral value) ≤ m
-  within c at to m k e f = omega (arith, counted at to e, values_part vs (i + 1) c (omega arith))
+  -- they are within what all of them take
+  pub within : length (values_to vs i) + 1 + length (numeral (get_or vs i (pos 0))) ≤ length (joined (map spaced vs))
+  within =
+      omega (
+        arith,
+        ap length values_more,
+        length-append (values_to vs i) (spaced (get_or vs i (pos 0))),
+        joined-part spaced vs (i + 1) (length vs) (omega arith),
+        ap length (values_all vs (length vs) (omega arith)),
+      )
 
   -- a space and the numeral, written behind the first i
-  pub put-more : (s out last : List ℕ) (at to : ℕ) → to < length s → to ≡ at + length (values_to vs i) → out ≡ written s at (values_to vs i) → last ≡ written (set out to space) (to + 1) (numeral value) → last ≡ written s at (values_to vs (i + 1))
-  put-more s out last at to k e o l =
-      let xs = values_to vs i in
-      let n = length-written s at xs (omega arith) in
-      rw (l, values_more, o, e)
-      (written_behind (written s at xs) (at + length xs) space (numeral value) (omega arith) ∙ written-more s at xs (spaced value) (omega arith))
+  pub put-more : (s text next last : List ℕ) → text ≡ s ++ values_to vs i → next ≡ text ++ space ∷ [] → last ≡ next ++ numeral (get_or vs i (pos 0)) → last ≡ s ++ values_to vs (i + 1)
+  put-more s text next last t e l =
+      rw (
+        l,
+        e,
+        t,
+        append_assoc (s ++ values_to vs i) (space ∷ []) (numeral (get_or vs i (pos 0))),
+        append_assoc s (values_to vs i) (spaced (get_or vs i (pos 0))),
+        ← values_more,
+      )

@@ -1,58 +1,47 @@
 #![tactic(auto)]
 
 // The text of an entry, as a line of the logbook has it.
-ghost use Rattle.std.specs.Prelude.{◌≡◌, map, ◌+◌, ◌≤◌, length, take};
-ghost use Rattle.laws.specs.Written.{written};
+ghost use Rattle.std.specs.Prelude.{◌≡◌, ◌++◌, map, ◌+◌, ◌≤◌, length, take};
+ghost use Rattle.arrayvec.specs.ArrayString.{array_string_len};
 ghost use Rattle.paper.specs.Numbers.{code_of};
 ghost use Rattle.paper.specs.Rows.{joined};
 ghost use Rattle.values.specs.Places.{Readable};
 ghost use Rattle.wording.specs.Texts.{name_of, spaced, entry_text};
 
+use arrayvec::ArrayString;
 use paper::{Entry, Kind};
 use values::Values;
 
-// Bytes from a place on. The answer is the place behind them.
-pub fn put_bytes(out: &mut [u8], at: usize, s: &[u8]) -> usize
-    requires { at + length s.now ≤ length out.old }
-    ensures { (result ≡ at + length s.now) × (out.new ≡ written out.old at s.now) }
-{
-    at + laws::copy(s, &mut out[at..])
-}
-
+// The name of a kind.
 #[tactic(auto, unfolding(crate::specs::Texts::name_of))]
-fn put_name(out: &mut [u8], at: usize, kind: Kind) -> usize
-    requires { at + length (name_of (code_of kind)) ≤ length out.old }
-    ensures { (result ≡ at + length (name_of (code_of kind))) × (out.new ≡ written out.old at (name_of (code_of kind))) }
+fn name_of(kind: Kind) -> &'static str
+    ensures { result.now ≡ name_of (code_of kind) }
 {
     match kind {
-        Kind::Weighing => put_bytes(out, at, b"weighing"),
-        Kind::Sheet => put_bytes(out, at, b"sheet"),
-        Kind::Change => put_bytes(out, at, b"change"),
-        Kind::Paired => put_bytes(out, at, b"paired"),
-        Kind::Seat => put_bytes(out, at, b"seat"),
+        Kind::Weighing => "weighing",
+        Kind::Sheet => "sheet",
+        Kind::Change => "change",
+        Kind::Paired => "paired",
+        Kind::Seat => "seat",
     }
 }
 
-// Values from a place on, a space before each. The answer is the place behind them.
-fn put_values(out: &mut [u8], at: usize, v: Values) -> usize
-    requires { (v.count ≤ 15) × (at + length (joined (map spaced (take v.count v.places))) ≤ length out.old) }
-    ensures { (result ≡ at + length (joined (map spaced (take v.count v.places)))) × (out.new ≡ written out.old at (joined (map spaced (take v.count v.places)))) }
+// Writes values behind what stands in a text, a space before each.
+fn put_values<const N: usize>(text: &mut ArrayString<N>, v: Values)
+    requires { (v.count ≤ 15) × (array_string_len text.old + length (joined (map spaced (take v.count v.places))) ≤ N) }
+    ensures { text.new.bytes ≡ text.old.bytes ++ joined (map spaced (take v.count v.places)) }
 {
-    let mut to = at;
-    let mut i = 0;
-    while i < v.count {
-        out[to] = b' ';
-        to = numerals::put_number(out, to + 1, v.places[i]);
-        i += 1;
+    for x in &v.places[..v.count] {
+        text.push(' ');
+        numerals::put_number(text, *x);
     }
-    to
 }
 
-// The text of an entry from a place on. The answer is the place behind it.
-pub fn put_entry(out: &mut [u8], at: usize, e: Entry) -> usize
-    requires { Readable e × (at + length (entry_text e) ≤ length out.old) }
-    ensures { (result ≡ at + length (entry_text e)) × (out.new ≡ written out.old at (entry_text e)) }
+// Writes the text of an entry there.
+pub fn put_entry<const N: usize>(text: &mut ArrayString<N>, e: Entry)
+    requires { Readable e × (array_string_len text.old + length (entry_text e) ≤ N) }
+    ensures { text.new.bytes ≡ text.old.bytes ++ entry_text e }
 {
-    let from = put_name(out, at, e.kind());
-    put_values(out, from, values::values_of(e))
+    text.push_str(name_of(e.kind()));
+    put_values(text, values::values_of(e));
 }

@@ -15,24 +15,24 @@ returns-in_default c =
 pub returns-in-Weighing : goal.returns-in-Weighing
 returns-in-Weighing c =
     let a = c.args in
-    kind_got a.s.now a.at kind.Weighing _ c.if-s-at.false (rw c.in-Weighing.is at (rw c.in-Ok.is at c.try_from.ensures)) c.weighing_from.ensures
+    kind_got a.s.now a.at kind.Weighing _ c.if-s-at.false (rw c.in-Weighing.is at (rw c.in-Ok.is at c.try_from.ensures)) c.entry_from.ensures
 
 pub returns-in-Sheet : goal.returns-in-Sheet
 returns-in-Sheet c =
     let a = c.args in
-    kind_got a.s.now a.at kind.Sheet _ c.if-s-at.false (rw c.in-Sheet.is at (rw c.in-Ok.is at c.try_from.ensures)) c.sheet_from.ensures
+    kind_got a.s.now a.at kind.Sheet _ c.if-s-at.false (rw c.in-Sheet.is at (rw c.in-Ok.is at c.try_from.ensures)) c.entry_from-in-Sheet.ensures
 
 pub returns-in-Change : goal.returns-in-Change
 returns-in-Change c =
     let a = c.args in
-    kind_got a.s.now a.at kind.Change _ c.if-s-at.false (rw c.in-Change.is at (rw c.in-Ok.is at c.try_from.ensures)) c.change_from.ensures
+    kind_got a.s.now a.at kind.Change _ c.if-s-at.false (rw c.in-Change.is at (rw c.in-Ok.is at c.try_from.ensures)) c.entry_from-in-Change.ensures
 
 pub returns-in-Paired : goal.returns-in-Paired
 returns-in-Paired c =
     let a = c.args in
-    kind_got a.s.now a.at kind.Paired _ c.if-s-at.false (rw c.in-Paired.is at (rw c.in-Ok.is at c.try_from.ensures)) c.paired_from.ensures
+    kind_got a.s.now a.at kind.Paired _ c.if-s-at.false (rw c.in-Paired.is at (rw c.in-Ok.is at c.try_from.ensures)) c.entry_from-in-Paired.ensures
 
 pub returns-in-Seat : goal.returns-in-Seat
 returns-in-Seat c =
     let a = c.args in
-    kind_got a.s.now a.at kind.Seat _ c.if-s-at.false (rw c.in-Seat.is at (rw c.in-Ok.is at c.try_from.ensures)) c.seat_from.ensures
+    kind_got a.s.now a.at kind.Seat _ c.if-s-at.false (rw c.in-Seat.is at (rw c.in-Ok.is at c.try_from.ensures)) c.entry_from-in-Seat.ensures

@@ -1,36 +1,31 @@
--- `file::length_of` meets its contract. The loop's invariant: the header and the first i entries are counted. Assumes nothing.
-use borrow.Author.Rules.{rules}
-use mathlib.Core.Path.{◌≡◌, sym, ap, ◌∙◌}
-use Prim.Native.Nat.{ℕ, ◌+◌}
+-- `file::length_of` meets its contract: the bytes of each entry are counted in turn. Assumes nothing.
+use Rattle.std.proofs.Common.{sym, ap, ◌∙◌, length, ◌+◌, take_all}
+use mathlib.Core.List.{List}
 use native.Mathlib.Omega.{arith}
-use lib.ListN.{length}
+use Rattle.paper.specs.declared.Entry.{Entry}
 use Rattle.paper.specs.Rows.{joined}
-use Rattle.record.specs.Held.{slotted}
-use Rattle.file.proofs.Slots.{bytes_to, counted, one_entry, bytes_most}
+use Rattle.stored.specs.Found.{bytes_in}
 use Rattle.stored.proofs.Parts.{file_size}
+use Rattle.file.proofs.Slots.{counted, one_entry, bytes_most}
 use Rattle.file.proofs.length_of.Goals as goal
 
-pub loop-i-init : goal.loop-i-init
+pub loop-e-init : goal.loop-e-init
 unfolding joined
-loop-i-init c = (omega arith, omega arith)
+loop-e-init c = omega arith
 
 pub overflow_add-length : goal.overflow_add-length
 overflow_add-length c =
-    let slots : length c.args.r.slots ≡ 64 = search rules in
-    let l = c.loop-i in
-    let k = one_entry c.args.r.slots l.i _ c.length_of-length.result c.length_of-length.ensures in
-    omega (arith, bytes_most c.args.r.slots l.i (omega (arith, slots)))
+    let l = c.loop-e in
+    let k = one_entry c.args.list.now l.e-index _ c.length_of-length.result c.length_of-length.ensures in
+    omega (arith, bytes_most c.args.list.now l.e-index (omega arith), l.invariant, c.requires)
 
-pub loop-i-preserved : goal.loop-i-preserved
-loop-i-preserved c =
-    let slots : length c.args.r.slots ≡ 64 = search rules in
-    let l = c.loop-i in
-    (omega arith, counted c.args.r.slots l.i _ l.length c.length_of-length.result (omega (arith, slots)) l.invariant.1 c.length_of-length.ensures)
+pub loop-e-preserved : goal.loop-e-preserved
+loop-e-preserved c =
+    let l = c.loop-e in
+    counted c.args.list.now l.e-index _ l.length c.length_of-length.result (omega arith) l.invariant c.length_of-length.ensures
 
 pub returns : goal.returns
-unfolding slotted
 returns c =
-    let l = c.loop-i in
-    let r = c.args.r in
-    let e : l.i ≡ r.count = omega arith in
-    l.invariant.1 ∙ ap (λ (k : ℕ). 6 + length (bytes_to r.slots k)) e ∙ sym (file_size (slotted r))
+    let l = c.loop-e in
+    let all = take_all l.e-index c.args.list.now (omega arith) in
+    l.invariant ∙ ap (λ (es : List Entry). 6 + length (bytes_in es)) all ∙ sym (file_size c.args.list.now)

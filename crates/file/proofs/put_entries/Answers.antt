@@ -1,48 +1,45 @@
--- `file::put_entries` meets its contract. The loop's invariant: the first i entries are written, and `at` is behind them.
--- Assumes nothing.
-use borrow.Author.Rules.{rules}
-use mathlib.Core.Path.{◌≡◌, refl, sym, ap, ◌∙◌}
-use Prim.Native.Nat.{ℕ, ◌+◌, ◌≤◌}
+-- `file::put_entries` meets its contract: each entry is written behind the one before it. Assumes nothing.
+use Rattle.std.proofs.Common.{◌≡◌, refl, sym, ap, ◌∙◌, length, ℕ, ◌+◌, ◌≤◌, take_all}
+use mathlib.Core.List.{List}
 use native.Mathlib.Omega.{arith}
-use lib.ListN.{length}
 use Rattle.laws.specs.Written.{written, written_none, length-written}
+use Rattle.paper.specs.declared.Entry.{Entry}
 use Rattle.paper.specs.Rows.{joined}
-use Rattle.record.specs.Held.{slotted}
-use Rattle.file.proofs.Slots.{bytes_to, bytes-part, within, put-more, counted}
+use Rattle.stored.specs.Found.{bytes_in}
 use Rattle.stored.proofs.Parts.{file_size}
+use Rattle.file.proofs.Slots.{bytes_to, bytes-part, within, put-more, counted}
 use Rattle.file.proofs.put_entries.Goals as goal
 
-pub loop-i-init : goal.loop-i-init
+pub loop-e-init : goal.loop-e-init
 unfolding joined
-loop-i-init c = (omega arith, omega arith, sym (written_none c.args.out.now 6))
+loop-e-init c = (omega arith, sym (written_none c.args.out.now 6))
+
+-- what the first i entries take is in the buffer
+inside : (es : List Entry) (out : List ℕ) (i : ℕ) → 6 + length (bytes_in es) ≤ length out → i ≤ length es → 6 + length (bytes_to es i) ≤ length out
+inside es out i room h =
+    let all : bytes_to es (length es) ≡ bytes_in es = ap bytes_in (take_all (length es) es (omega arith)) in
+    omega (arith, bytes-part es i (length es) h, ap length all)
 
 pub put_entry-at-requires : goal.put_entry-at-requires
-unfolding slotted
 put_entry-at-requires c =
-    let slots : length c.args.r.slots ≡ 64 = search rules in
-    let room : 6 + length (bytes_to c.args.r.slots c.args.r.count) ≤ length c.args.out.now = omega (arith, file_size (slotted c.args.r), c.requires.1) in
-    let inside : 6 + length (bytes_to c.args.r.slots c.loop-i.i) ≤ length c.args.out.now = omega (arith, room, bytes-part c.args.r.slots c.loop-i.i c.args.r.count (omega arith)) in
-    let kept : length c.loop-i.out ≡ length c.args.out.now = ap length c.loop-i.invariant.2 ∙ length-written c.args.out.now 6 (bytes_to c.args.r.slots c.loop-i.i) inside in
-    let r = c.args.r in
-    within r.slots c.loop-i.i _ r.count c.loop-i.at _ (omega arith) (omega (arith, slots)) c.loop-i.invariant.1 (omega (arith, room, kept))
+    let es = c.args.list.now in
+    let l = c.loop-e in
+    let room : 6 + length (bytes_in es) ≤ length c.args.out.now = omega (arith, file_size es, c.requires) in
+    let all : length (bytes_to es (length es)) ≡ length (bytes_in es) = ap (λ (fs : List Entry). length (bytes_in fs)) (take_all (length es) es (omega arith)) in
+    let kept : length l.out ≡ length c.args.out.now = ap length l.invariant.1 ∙ length-written c.args.out.now 6 (bytes_to es l.e-index) (inside es c.args.out.now l.e-index room (omega arith)) in
+    within es l.e-index _ (length es) l.at _ (omega arith) (omega arith) l.invariant.0 (omega (arith, room, kept, all))
 
-pub loop-i-preserved : goal.loop-i-preserved
-unfolding slotted
-loop-i-preserved c =
-    let slots : length c.args.r.slots ≡ 64 = search rules in
-    let room : 6 + length (bytes_to c.args.r.slots c.args.r.count) ≤ length c.args.out.now = omega (arith, file_size (slotted c.args.r), c.requires.1) in
-    let inside : 6 + length (bytes_to c.args.r.slots c.loop-i.i) ≤ length c.args.out.now = omega (arith, room, bytes-part c.args.r.slots c.loop-i.i c.args.r.count (omega arith)) in
-    let l = c.loop-i in
-    let r = c.args.r in (
-      omega arith,
-      c.put_entry-at.ensures.0 ∙ counted r.slots l.i _ l.at _ (omega (arith, slots)) l.invariant.1 refl,
-      put-more c.args.out.now r.slots l.i _ l.out c.put_entry-at.new.out l.at (omega (arith, slots)) (inside) l.invariant.1 l.invariant.2 c.put_entry-at.ensures.1,
+pub loop-e-preserved : goal.loop-e-preserved
+loop-e-preserved c =
+    let es = c.args.list.now in
+    let l = c.loop-e in
+    let room : 6 + length (bytes_in es) ≤ length c.args.out.now = omega (arith, file_size es, c.requires) in (
+      c.put_entry-at.ensures.0 ∙ counted es l.e-index _ l.at _ (omega arith) l.invariant.0 refl,
+      put-more c.args.out.now es l.e-index _ l.out c.put_entry-at.new.out l.at (omega arith) (inside es c.args.out.now l.e-index room (omega arith)) l.invariant.0 l.invariant.1 c.put_entry-at.ensures.1,
     )
 
 pub returns : goal.returns
-unfolding slotted
 returns c =
-    let l = c.loop-i in
-    let a = c.args in
-    let e : l.i ≡ a.r.count = omega arith in
-    l.invariant.2 ∙ ap (λ (k : ℕ). written a.out.now 6 (bytes_to a.r.slots k)) e
+    let l = c.loop-e in
+    let all = take_all l.e-index c.args.list.now (omega arith) in
+    l.invariant.1 ∙ ap (λ (es : List Entry). written c.args.out.now 6 (bytes_in es)) all

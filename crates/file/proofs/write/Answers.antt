@@ -1,62 +1,46 @@
 -- `file::write` meets its contract: the record replayed is that of its list, so what is measured and put is the list's file.
 -- Assumes nothing.
-use mathlib.Core.Path.{◌≡◌, sym, ap, ◌∙◌}
-use Prim.Native.Nat.{ℕ, ◌≤◌}
+use Rattle.std.proofs.Common.{◌≡◌, sym, ap, ◌∙◌, length, ◌≤◌, Ok}
+use mathlib.Core.List.{List}
 use native.Mathlib.Omega.{arith}
-use lib.ListN.{length}
+use Rattle.paper.specs.declared.Entry.{Entry}
 use Rattle.paper.specs.File.{file_bytes}
 use Rattle.record.specs.Held.{slotted, held_by}
 use Rattle.record.proofs.Lists.{slotted_record}
 use Rattle.record.proofs.Replays.{count_is, held_most}
-use Rattle.header.proofs.Putting.{header_length}
 use Rattle.stored.proofs.Parts.{file_size, too_short, long_enough}
 use Rattle.file.proofs.Writing.{put_in_all}
+use Rattle.file.proofs.RoundTrips.{Written}
 use Rattle.file.proofs.write.Goals as goal
 
-pub length_of-length-requires : goal.length_of-length-requires
-length_of-length-requires c =
-    let count : c.replay-now.result.log.count ≡ length (held_by c.args.r) = count_is (held_by c.args.r) c.replay-now.result c.replay-now.ensures in
-    let most : c.replay-now.result.log.count ≤ 64 = omega (arith, count, held_most c.args.r) in
-    most
+pub shared_ref_as_front-list : goal.shared_ref_as_front-list
+shared_ref_as_front-list c = omega (arith, count_is _ _ c.replay-now.ensures, held_most c.args.r.now)
 
+-- the slots in use hold the list that the record holds
 pub returns-then-out-length : goal.returns-then-out-length
+unfolding slotted
 returns-then-out-length c =
-    let entries : slotted c.replay-now.result.log ≡ held_by c.args.r = ap slotted c.replay-now.ensures.log ∙ slotted_record (held_by c.args.r) in
-    let size : c.length_of-length.result ≡ length (file_bytes (held_by c.args.r)) = c.length_of-length.ensures ∙ ap (λ es. length (file_bytes es)) (entries) in
-    let a = c.args in
-    let e = too_short (held_by a.r) a.out.now (omega (arith, size)) in
-    (sym (ap (λ p. p.0) e), sym (ap (λ p. p.1) e))
+    let es = held_by c.args.r.now in
+    let entries = ap slotted c.replay-now.ensures.log ∙ slotted_record es in
+    let size : c.length_of-length.result ≡ length (file_bytes es) = c.length_of-length.ensures ∙ ap (λ (fs : List Entry). length (file_bytes fs)) entries in
+    sym (too_short es c.args.out.now (omega (arith, size)))
 
 pub overflow_sub-length : goal.overflow_sub-length
-overflow_sub-length c =
-    let entries : slotted c.replay-now.result.log ≡ held_by c.args.r = ap slotted c.replay-now.ensures.log ∙ slotted_record (held_by c.args.r) in
-    let size : c.length_of-length.result ≡ length (file_bytes (held_by c.args.r)) = c.length_of-length.ensures ∙ ap (λ es. length (file_bytes es)) (entries) in
-    omega (arith, size, file_size (held_by c.args.r))
+unfolding slotted
+overflow_sub-length c = omega (arith, c.length_of-length.ensures, file_size (slotted c.replay-now.result.log))
 
 pub put_header-requires : goal.put_header-requires
-put_header-requires c =
-    let entries : slotted c.replay-now.result.log ≡ held_by c.args.r = ap slotted c.replay-now.ensures.log ∙ slotted_record (held_by c.args.r) in
-    let size : c.length_of-length.result ≡ length (file_bytes (held_by c.args.r)) = c.length_of-length.ensures ∙ ap (λ es. length (file_bytes es)) (entries) in
-    omega (arith, size, file_size (held_by c.args.r))
-
-pub put_entries-requires : goal.put_entries-requires
-put_entries-requires c =
-    let count : c.replay-now.result.log.count ≡ length (held_by c.args.r) = count_is (held_by c.args.r) c.replay-now.result c.replay-now.ensures in
-    let most : c.replay-now.result.log.count ≤ 64 = omega (arith, count, held_most c.args.r) in
-    let entries : slotted c.replay-now.result.log ≡ held_by c.args.r = ap slotted c.replay-now.ensures.log ∙ slotted_record (held_by c.args.r) in
-    let size : c.length_of-length.result ≡ length (file_bytes (held_by c.args.r)) = c.length_of-length.ensures ∙ ap (λ es. length (file_bytes es)) (entries) in
-    let header : length c.put_header.new.out ≡ length c.args.out.now = ap length c.put_header.ensures
-    ∙ header_length c.args.out.now _ _ (omega (arith, size, file_size (held_by c.args.r))) in
-    (most, omega (arith, header, c.length_of-length.ensures))
+unfolding slotted
+put_header-requires c = omega (arith, c.length_of-length.ensures, file_size (slotted c.replay-now.result.log))
 
 pub returns : goal.returns
+unfolding slotted
 returns c =
-    let count : c.replay-now.result.log.count ≡ length (held_by c.args.r) = count_is (held_by c.args.r) c.replay-now.result c.replay-now.ensures in
-    let entries : slotted c.replay-now.result.log ≡ held_by c.args.r = ap slotted c.replay-now.ensures.log ∙ slotted_record (held_by c.args.r) in
-    let size : c.length_of-length.result ≡ length (file_bytes (held_by c.args.r)) = c.length_of-length.ensures ∙ ap (λ es. length (file_bytes es)) (entries) in
-    let es = held_by c.args.r in
+    let es = held_by c.args.r.now in
     let s = c.args.out.now in
+    let entries = ap slotted c.replay-now.ensures.log ∙ slotted_record es in
+    let size : c.length_of-length.result ≡ length (file_bytes es) = c.length_of-length.ensures ∙ ap (λ (fs : List Entry). length (file_bytes fs)) entries in
     let room : length (file_bytes es) ≤ length s = omega (arith, size) in
-    let e = long_enough es s room in
-    let put = put_in_all es _ s c.put_header.new.out c.put_entries.new.out c.length_of-length.result _ (entries) (size) (count) room c.put_header.ensures c.put_entries.ensures in
-    (ap (λ (k : ℕ). record { number = 0; length = k }) (size) ∙ sym (ap (λ x. x.0) e), put ∙ sym (ap (λ x. x.1) e))
+    let put = put_in_all es _ s c.put_header.new.out c.put_entries.new.out c.length_of-length.result _ entries size (ap length entries) room c.put_header.ensures c.put_entries.ensures in
+    let told : ◌≡◌ {A = Written} (Ok c.length_of-length.result, c.put_entries.new.out) _ = λ i. (Ok (size i), put i) in
+    told ∙ sym (long_enough es s room)

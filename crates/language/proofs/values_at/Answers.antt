@@ -25,10 +25,9 @@ loop-i-preserved c =
     c.behind-at.ensures.1 ∙ others_read s l.at c.find-end.result c.find-end.ensures.0
     in
     rw (to_z-of_z {w = w64} (record { sfits = c.number_of.type_inv })) (
-      omega arith,
       c.behind-at.ensures.0,
-      length-set l.v l.i c.number_of.result ∙ l.invariant.2,
-      value-more l.v l.i c.number_of.result rest (drop c.behind-at.result s) l.invariant.2 (omega arith) x others ∙ l.invariant.3,
+      length-set l.v l.i c.number_of.result ∙ l.invariant.1,
+      value-more l.v l.i c.number_of.result rest (drop c.behind-at.result s) l.invariant.1 (omega arith) x others ∙ l.invariant.2,
     )
 
 pub returns : goal.returns
@@ -38,4 +37,4 @@ returns c =
     let a = c.args in
     let e : l.i ≡ 15 = omega arith in
     let all : read_to l.v 15 (drop l.at a.s.now) ≡ l.v = append-nil (take 15 l.v) ∙ take_all 15 l.v (omega arith) in
-    sym all ∙ ap (λ (k : ℕ). read_to l.v k (drop l.at a.s.now)) (sym e) ∙ l.invariant.3
+    sym all ∙ ap (λ (k : ℕ). read_to l.v k (drop l.at a.s.now)) (sym e) ∙ l.invariant.2

@@ -1,34 +1,50 @@
 -- `numerals::put_number` meets its contract: by the side of 0 that the number is on. Assumes nothing.
-use mathlib.Core.Path.{◌≡◌, sym, ap, ◌∙◌}
+use borrow.Author.Rules.{rules}
+use mathlib.Core.Path.{ap, ◌∙◌}
+use mathlib.Core.List.{List, [], ◌∷◌, append_assoc}
+use Prim.Native.Nat.{ℕ, ◌+◌, ◌≤◌}
 use native.Mathlib.Omega.{arith}
-use lib.IntN.{pos, negsuc}
-use lib.ListN.{length, length-set}
+use lib.ListN.{length, length-append}
+use lib.Utf8.{encode}
 use mir.Facts.{to_z-of_z}
-use Rattle.numerals.proofs.Signs.{numeral-below, numeral_from, numeral_some, put-below, put_from_lem}
+use mir.Syntax.{w64}
+use mir.Val.{to_z, of_z}
+use Rattle.arrayvec.specs.ArrayString.{ArrayString}
+use Rattle.paper.specs.Placard.{hyphen}
+use Rattle.numerals.specs.Numerals.{decimal}
+use Rattle.numerals.proofs.Signs.{numeral_below, numeral_from}
+use Rattle.numerals.proofs.Words.{numeral_some}
 use Rattle.numerals.proofs.put_number.Goals as goal
+use Rattle.numerals.proofs.put_number.Goals.{then-x-lt0, else-x-lt0}
 
-pub bounds-out-at : goal.bounds-out-at
-bounds-out-at c = omega (arith, numeral_some c.args.x)
+abbrev bytes_of : ArrayString → List ℕ
+bytes_of s = s.bytes
+
+pub push-requires : goal.push-requires
+unfolding encode
+push-requires g c =
+    let room : length c.args.text.now.bytes + 1 ≤ g.row.N = omega (arith, numeral_some c.args.x) in
+    search rules
 
 pub put_size-requires : goal.put_size-requires
-put_size-requires c =
-    let below : c.args.x ≡ negsuc c.under.result = sym (to_z-of_z c.ranges.x) ∙ c.under.ensures.0 in
-    simp length-set
-    (omega (arith, ap length (numeral-below c.args.x c.under.result (below))))
+put_size-requires g c =
+    let x = c.args.x in
+    let y = to_z w64 (of_z w64 x) in
+    let back = to_z-of_z c.ranges.x in
+    let n = c.unsigned_abs in
+    let room : length c.if-x-lt0.text.bytes + length (decimal n.result) ≤ g.row.N = elim c.if-x-lt0.branch [
+      | then-x-lt0 w ↦ let next = ap bytes_of w.text-is ∙ w.push.ensures.ascii (omega arith) in omega (arith, ap length (numeral_below x y n.result back w.if-x-lt0.true n.ensures.value), ap length next, length-append {A = ℕ})
+      | else-x-lt0 w ↦ omega (arith, ap length (numeral_from x y n.result back w.if-x-lt0.false n.ensures.value), ap length (ap bytes_of w.text-is))
+    ] in
+    search rules
 
-pub put_size-requires-else-x-lt0 : goal.put_size-requires-else-x-lt0
-put_size-requires-else-x-lt0 c =
-    let from : pos c.size.result ≡ c.args.x = c.size.ensures ∙ to_z-of_z c.ranges.x in
-    omega (arith, ap length (numeral_from c.args.x c.size.result (from)))
-
-pub returns-then-x-lt0 : goal.returns-then-x-lt0
-returns-then-x-lt0 c =
-    let below : c.args.x ≡ negsuc c.under.result = sym (to_z-of_z c.ranges.x) ∙ c.under.ensures.0 in
-    let a = c.args in
-    put-below a.out.now c.put_size.new.out a.at c.put_size.result c.under.result a.x (omega (arith, numeral_some a.x)) (below) c.put_size.ensures
-
-pub returns-else-x-lt0 : goal.returns-else-x-lt0
-returns-else-x-lt0 c =
-    let from : pos c.size.result ≡ c.args.x = c.size.ensures ∙ to_z-of_z c.ranges.x in
-    let a = c.args in
-    put_from_lem a.out.now c.put_size-else-x-lt0.new.out a.at c.put_size-else-x-lt0.result c.size.result a.x (from) c.put_size-else-x-lt0.ensures
+pub returns : goal.returns
+returns g c =
+    let x = c.args.x in
+    let y = to_z w64 (of_z w64 x) in
+    let back = to_z-of_z c.ranges.x in
+    let n = c.unsigned_abs in
+    elim c.if-x-lt0.branch [
+      | then-x-lt0 w ↦ rw (c.put_size.ensures, w.text-is, w.push.ensures.ascii (omega arith), numeral_below x y n.result back w.if-x-lt0.true n.ensures.value) (append_assoc c.args.text.now.bytes (hyphen ∷ []) (decimal n.result))
+      | else-x-lt0 w ↦ rw (c.put_size.ensures, w.text-is, numeral_from x y n.result back w.if-x-lt0.false n.ensures.value)
+    ]

@@ -1,23 +1,17 @@
--- `numerals::put_size` meets its contract: the digits that the number takes. Assumes nothing.
+-- `numerals::put_size` meets its contract: what is printed are the number's digits. Assumes nothing.
+use borrow.Author.Rules.{rules}
 use mathlib.Core.Path.{◌≡◌, ap, ◌∙◌}
-use Prim.Native.Nat.{ℕ}
-use native.Mathlib.Omega.{arith}
-use Rattle.laws.specs.Written.{written}
-use Rattle.paper.specs.Placard.{digits}
-use Rattle.numerals.specs.Numerals.{places, decimal}
-use Rattle.numerals.proofs.Lengths.{length-decimal}
+use lib.ListN.{length}
+use mathlib.Core.List.{◌++◌}
+use Rattle.numerals.specs.Numerals.{decimal}
+use Rattle.numerals.proofs.Lengths.{decimal_same}
 use Rattle.numerals.proofs.put_size.Goals as goal
 
-pub put_digits-requires : goal.put_digits-requires
-put_digits-requires c = omega (arith, length-decimal c.args.n)
-
-pub overflow_add-result : goal.overflow_add-result
-overflow_add-result c = omega (arith, length-decimal c.args.n)
+pub push_str-requires : goal.push_str-requires
+push_str-requires g c =
+    let same : length c.format.result.now ≡ length (decimal c.args.n) = ap length (c.format.ensures.text ∙ decimal_same c.args.n c.ranges.n.fits) in
+    search rules
 
 pub returns : goal.returns
-unfolding decimal
-returns c =
-    let a = c.args in
-    let count : c.places-k.result ≡ places a.n = c.places-k.ensures in
-    let put : c.put_digits.new.out ≡ written a.out.now a.at (digits c.places-k.result a.n) = c.put_digits.ensures in
-    (omega (arith, length-decimal a.n), put ∙ ap (λ (k : ℕ). written a.out.now a.at (digits k a.n)) count)
+returns g c =
+    c.push_str.ensures.bytes ∙ ap (λ ds. c.args.text.now.bytes ++ ds) (c.format.ensures.text ∙ decimal_same c.args.n c.ranges.n.fits)

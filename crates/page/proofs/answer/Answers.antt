@@ -3,72 +3,81 @@
 use mathlib.Core.Path.{◌≡◌, sym, ap, ◌∙◌}
 use mathlib.Core.List.{List}
 use mathlib.Core.Option.{some}
-use Prim.Native.Nat.{◌*◌}
+use Prim.Native.Nat.{ℕ}
 use native.Mathlib.Omega.{arith}
-use Rattle.paper.specs.declared.Sheet.{Sheet}
-use Rattle.paper.specs.declared.Seat.{Seat}
+use Rattle.std.proofs.Common.{rules}
+use Rattle.std.specs.Prelude.{Result, Err, Some}
 use Rattle.paper.specs.declared.Entry.{Entry}
+use Rattle.paper.specs.declared.Refusal.{Refusal}
+use Rattle.paper.specs.declared.Placard.{Placard}
 use Rattle.paper.specs.Record.{balance_of, sheet_of, seat_of, ends_of}
 use Rattle.paper.specs.Placard.{text_length}
+use Rattle.paper.specs.Answers.{placard_answer}
 use Rattle.seat.specs.declared.InForce.{InForce}
-use Rattle.seat.specs.declared.InForce.TheVariants as force
 use Rattle.seat.specs.InForce.{found, in_force}
 use Rattle.seat.proofs.Lists.{force_none, force_apart}
 use Rattle.balance.specs.declared.Balance.{Balance}
 use Rattle.balance.specs.Balance.{plain}
-use Rattle.judge.specs.declared.Weighed.TheVariants as weighed
 use Rattle.judge.specs.declared.Standing.{Standing}
 use Rattle.judge.specs.Standing.{Stands, stands_in, balance_in, plainly}
-use Rattle.judge.proofs.Judging.{of_weighed}
-use Rattle.page.proofs.Answers.{unweighed, no_sheet, too_short, refused_as, given_as}
+use Rattle.judge.proofs.Judging.{missing}
+use Rattle.page.proofs.Answers.{Answered, unweighed, no_sheet, too_short, given}
 use Rattle.page.proofs.answer.Goals as goal
 
--- a weighing stands
-weighed_of : (standing : Standing) (b : Balance) → standing.weighed ≡ weighed.Balance b → (es : List Entry) → plainly standing ≡ stands_in es → balance_of es ≡ some (plain b)
-unfolding stands_in
-weighed_of standing b e es w = sym (ap (λ (o : Stands). o.balance) w) ∙ ap balance_in e
+abbrev Answer : Type 0
+Answer = Result Placard Refusal
 
--- a sheet stands
-found_of : (x : InForce) (s : Sheet) (f : Seat) → x ≡ force.Found s f → (es : List Entry) → found x ≡ in_force es → (sheet_of es ≡ some s) × (ends_of s (seat_of es) ≡ f)
-found_of x s f e es h = force_apart es _ _ (sym h ∙ ap found e)
+module _ (standing : Standing) (es : List Entry) (w : plainly standing ≡ stands_in es) where
+  balance_is : balance_of es ≡ balance_in standing.balance
+  unfolding stands_in
+  balance_is = sym (ap (λ (o : Stands). o.balance) w)
 
-pub returns-in_default : goal.returns-in_default
-unfolding stands_in
-returns-in_default c es w f =
-    refused_as _ _ _ _ c.refused.ensures (unweighed _ _ (sym (ap (λ (o : Stands). o.balance) w) ∙ ap balance_in c.in_default.is))
+  force_is : in_force es ≡ found standing.force
+  unfolding stands_in
+  force_is = sym (ap (λ (o : Stands). o.force) w)
 
-pub returns-in_default-sheet : goal.returns-in_default-sheet
-returns-in_default-sheet c es w f =
-    refused_as _ _ _ _ c.refused-in_default-sheet.ensures
-    (no_sheet _ _ _ (weighed_of c.args.standing c.in-Balance.b c.in-Balance.is es w) (force_none es (sym f ∙ ap found c.in_default-sheet.is)))
+  -- a weighing stands
+  weighed_of : (b : Balance) → standing.balance ≡ Some b → balance_of es ≡ some (plain b)
+  weighed_of b e = balance_is ∙ ap balance_in e
 
-pub row_count-rows-requires : goal.row_count-rows-requires
-row_count-rows-requires c = (c.requires.1 _ _ (ap found c.in-Found.is)).0
+  -- a sheet stands
+  found_of : (x : InForce) → standing.force ≡ Some x → (sheet_of es ≡ some x.sheet) × (ends_of x.sheet (seat_of es) ≡ x.seat)
+  found_of x e = force_apart es _ _ (force_is ∙ ap found e)
+
+-- a refusal, and the buffer as it was
+refused_as : (es : List Entry) (xs : List ℕ) (a : Answer) (r : Refusal) → a ≡ Err r → ◌≡◌ {A = Answered} (placard_answer es xs) (Err r, xs) → ◌≡◌ {A = Answered} (a, xs) (placard_answer es xs)
+refused_as es xs a r e h = ap {B = Answered} (λ (x : Answer). (x, xs)) e ∙ sym h
+
+pub returns-in_err-b : goal.returns-in_err-b
+returns-in_err-b c es w =
+    let standing = c.args.standing.now in
+    let m = missing standing.balance _ _ c.in_err-b.ensures.value in
+    let told : ◌≡◌ {A = Answer} c.from_residual.result (Err c.in_err-b.field-0.0) = search rules in
+    refused_as _ _ _ _ (told ∙ ap (λ (r : Refusal). Err r) m.1) (unweighed _ _ (balance_is standing es w ∙ ap balance_in m.0))
+
+pub returns-in_err-force : goal.returns-in_err-force
+returns-in_err-force c es w =
+    let standing = c.args.standing.now in
+    let m = missing standing.force _ _ c.in_err-force.ensures.value in
+    let b = weighed_of standing es w c.in_ok-b.b c.in_ok-b.ensures.ok_part in
+    let told : ◌≡◌ {A = Answer} c.from_residual-in_err-force.result (Err c.in_err-force.field-0.0) = search rules in
+    refused_as _ _ _ _ (told ∙ ap (λ (r : Refusal). Err r) m.1) (no_sheet _ _ _ b (force_none es (force_is standing es w ∙ ap found m.0)))
 
 pub returns-then-out-bytes : goal.returns-then-out-bytes
 unfolding text_length
-returns-then-out-bytes c es w f =
+returns-then-out-bytes c es w =
+    let standing = c.args.standing.now in
     let rows = c.row_count-rows.ensures in
-    refused_as _ _ _ _ c.refused-then-out-bytes.ensures
-    (too_short _ _ _ (weighed_of c.args.standing c.in-Balance.b c.in-Balance.is es w) _
-    (found_of c.args.sheet c.in-Found.s c.in-Found.f c.in-Found.is es f).0
-    (omega (arith, rows)))
-
-pub put_rows-blank-requires : goal.put_rows-blank-requires
-put_rows-blank-requires c =
-    let accepted = c.requires.1 _ _ (ap found c.in-Found.is) in
-    (accepted.0, accepted.1, of_weighed 1024 _ _ c.in-Balance.is c.requires.0, omega (arith, c.row_count-rows.ensures))
+    let b = weighed_of standing es w c.in_ok-b.b c.in_ok-b.ensures.ok_part in
+    let s = found_of standing es w c.in_ok-force.force c.in_ok-force.ensures.ok_part in
+    sym (too_short _ _ _ b _ _ s (omega (arith, rows)))
 
 pub returns : goal.returns
 unfolding text_length
-returns c es w f =
+returns c es w =
+    let standing = c.args.standing.now in
     let rows = c.row_count-rows.ensures in
     let put = c.put_rows-blank.ensures in
-    given_as _ _ _ _ _ _ _ _ _
-    (weighed_of c.args.standing c.in-Balance.b c.in-Balance.is es w)
-    (found_of c.args.sheet c.in-Found.s c.in-Found.f c.in-Found.is es f)
-    (omega (arith, rows))
-    (ap (λ k. 36 * k) rows.0)
-    rows.0
-    put.0
-    put.1
+    let b = weighed_of standing es w c.in_ok-b.b c.in_ok-b.ensures.ok_part in
+    let s = found_of standing es w c.in_ok-force.force c.in_ok-force.ensures.ok_part in
+    sym (rw (← rows.0, ← put.0, ← put.1) at (given es c.args.out.now _ b _ _ s (omega (arith, rows))))

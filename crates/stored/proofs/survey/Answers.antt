@@ -12,7 +12,7 @@ use Rattle.stored.proofs.survey.Goals as goal
 
 pub returns-then-not-is_headed : goal.returns-then-not-is_headed
 returns-then-not-is_headed c =
-    let bytes : are_bytes c.args.s.now ≡ true = bytes_at c.args.s.now (λ i h. (c.shared_slice_known-1.given i).fits) in
+    let bytes : are_bytes c.args.s.now ≡ true = bytes_at c.args.s.now (λ i h. (c.type_inv.s i).fits) in
     bad_header c.args.s.now (bytes) ((sym c.is_headed.ensures ∙ c.if-not-is_headed.true))
 
 pub bounds-s-5 : goal.bounds-s-5
@@ -22,7 +22,7 @@ bounds-s-5 c =
 
 pub returns-then-count-gt-CAPACITY : goal.returns-then-count-gt-CAPACITY
 returns-then-count-gt-CAPACITY c =
-    let bytes : are_bytes c.args.s.now ≡ true = bytes_at c.args.s.now (λ i h. (c.shared_slice_known-1.given i).fits) in
+    let bytes : are_bytes c.args.s.now ≡ true = bytes_at c.args.s.now (λ i h. (c.type_inv.s i).fits) in
     let right : headed c.args.s.now ≡ true = (sym c.is_headed.ensures ∙ c.if-not-is_headed.false) in
     too_many c.args.s.now (bytes) (right) c.if-count-gt-CAPACITY.true
 
@@ -33,6 +33,6 @@ bounds-s-4 c =
 
 pub returns : goal.returns
 returns c =
-    let bytes : are_bytes c.args.s.now ≡ true = bytes_at c.args.s.now (λ i h. (c.shared_slice_known-1.given i).fits) in
+    let bytes : are_bytes c.args.s.now ≡ true = bytes_at c.args.s.now (λ i h. (c.type_inv.s i).fits) in
     let right : headed c.args.s.now ≡ true = (sym c.is_headed.ensures ∙ c.if-not-is_headed.false) in
     rw (good_header c.args.s.now (bytes) (right), ← c.last_kind.ensures) c.survey_entries.ensures

@@ -1,14 +1,8 @@
--- `wording::put_values` meets its contract. The loop's invariant: the first i values are written, and `to` is behind them.
--- Assumes nothing.
+-- `wording::put_values` meets its contract. The loop's invariant: the values so far are written. Assumes nothing.
 use mathlib.Core.Path.{◌≡◌}
-use Prim.Native.Nat.{◌+◌, ◌-◌, ◌≤◌}
-use lib.ListN.{length}
-use Rattle.laws.specs.Written.{written}
+use mathlib.Core.List.{◌++◌}
 use Rattle.wording.proofs.Turns.{values_to}
 use Rattle.wording.proofs.put_values.Given as goal
 
-abbrev pub invariant-loop-i : goal.invariant-loop-i
-invariant-loop-i l = (l.i ≤ l.v.count) × (l.to ≡ l.at + length (values_to l.v.places l.i)) × (l.out ≡ written l.initial.out l.at (values_to l.v.places l.i))
-
-abbrev pub decreases-loop-i : goal.decreases-loop-i
-decreases-loop-i l = l.v.count - l.i
+abbrev pub invariant-loop-x : goal.invariant-loop-x
+invariant-loop-x g l = l.text.bytes ≡ l.initial.text.bytes ++ values_to l.x-items l.x-index

@@ -2,15 +2,18 @@
 -- first k rows of the group are put, and their blank ones counted, whatever the balance that the loop began with. Assumes nothing.
 use mathlib.Core.Path.{◌≡◌, refl, ap, ◌∙◌}
 use mathlib.Core.List.{List}
-use Prim.Native.Nat.{ℕ, ◌+◌, ◌*◌, ◌≤◌, ◌<◌}
+use Prim.Native.Nat.{ℕ, ◌+◌, ◌-◌, ◌*◌, ◌≤◌, ◌<◌}
 use native.Mathlib.Nat.{add-mul, one-mul, zero-mul}
 use native.Mathlib.Omega.{arith}
 use lib.IntN.{pos, ◌+ℤ◌}
-use lib.ListN.{length}
-use Rattle.laws.specs.Written.{written, length-written}
+use lib.ListN.{length, take, drop}
+use Rattle.std.proofs.lemmas.List.{length-take}
+use Rattle.std.proofs.Common.{length-drop}
+use Rattle.laws.specs.Written.{written, written-part, length-written}
 use Rattle.laws.specs.Z.{is_nat, is_add, same}
 use Rattle.paper.specs.Units.{half_grams}
 use Rattle.paper.specs.Rows.{row_count}
+use Rattle.paper.specs.Placard.{line}
 use Rattle.sheet.proofs.Accepted.{accepted-sheet}
 use Rattle.seat.specs.declared.InForce.{InForce}
 use Rattle.balance.specs.declared.Balance.{Balance as Carried}
@@ -35,6 +38,10 @@ rear_most x j h = omega (arith, rear_in x.sheet j h, (accepted-sheet x.sheet x.a
 room_in : (x : InForce) (fields : List ℕ) (j : ℕ) → FieldsOf x.sheet fields → j < rears x.sheet → (j * length fields + length fields ≤ row_count x.sheet) × (row_count x.sheet ≤ 256)
 room_in x fields j f h =
     (group_room x.sheet (length fields) f.count j h, (accepted-sheet x.sheet x.accepted).steps.rows)
+
+-- the part of the buffer behind the lines before has room for one more
+part_long : (out : List ℕ) (at : ℕ) → at + 36 ≤ length out → 36 ≤ length (take (length out - at) (drop at out))
+part_long out at h = omega (arith, length-take (length out - at) (drop at out), length-drop at out)
 
 pub beside-x-requires : goal.beside-x-requires
 beside-x-requires c = (c.requires.0, rear_most c.args.self.now.front.arms.force c.args.j c.requires.1)
@@ -63,24 +70,40 @@ loop-k-init c =
     let z : 0 * force.sheet.water.step ≡ 0 = zero-mul force.sheet.water.step in
     (omega arith, omega arith, refl, c.beside-x.ensures.0, λ g h. (rw z h, λ none. group_begun force.sheet force.seat g _ c.args.out.now))
 
-pub carried-next-requires : goal.carried-next-requires
-carried-next-requires c =
+pub row-y-requires : goal.row-y-requires
+row-y-requires c =
     let room = room_in c.args.self.now.front.arms.force c.args.fields.now c.args.j c.requires.2 c.requires.1 in
-    (room_least c.loop-k.k 256 c.loop-k.x (omega (arith, room.0, room.1)) c.loop-k.invariant.3, c.args.self.now.share_in)
+    (room_least c.loop-k.k 256 c.loop-k.x (omega (arith, room.0, room.1)) c.loop-k.invariant.3, c.with_none-span.ensures.0)
 
 pub overflow_add-first : goal.overflow_add-first
 overflow_add-first c =
     let room = room_in c.args.self.now.front.arms.force c.args.fields.now c.args.j c.requires.2 c.requires.1 in
     omega (arith, room.0, room.1)
 
-pub put_row-none-requires : goal.put_row-none-requires
-put_row-none-requires c =
-    let room = room_in c.args.self.now.front.arms.force c.args.fields.now c.args.j c.requires.2 c.requires.1 in (
-      c.with_none-span.ensures.0,
-      room_least c.loop-k.k 256 c.loop-k.x (omega (arith, room.0, room.1)) c.loop-k.invariant.3,
-      omega (arith, room.0, room.1),
-      omega (arith, room.0, c.requires.3, c.loop-k.invariant.2),
-    )
+pub overflow_mul-first-in-loop-k : goal.overflow_mul-first-in-loop-k
+overflow_mul-first-in-loop-k c =
+    let room = room_in c.args.self.now.front.arms.force c.args.fields.now c.args.j c.requires.2 c.requires.1 in
+    omega (arith, room.0, room.1)
+
+pub slice_bounds-put_line-count : goal.slice_bounds-put_line-count
+slice_bounds-put_line-count c =
+    let room = room_in c.args.self.now.front.arms.force c.args.fields.now c.args.j c.requires.2 c.requires.1 in
+    omega (arith, room.0, c.requires.3, c.loop-k.invariant.2)
+
+pub slice_bounds-put_line-start : goal.slice_bounds-put_line-start
+slice_bounds-put_line-start c =
+    let room = room_in c.args.self.now.front.arms.force c.args.fields.now c.args.j c.requires.2 c.requires.1 in
+    omega (arith, room.0, c.requires.3, c.loop-k.invariant.2)
+
+pub put_line-requires : goal.put_line-requires
+put_line-requires c =
+    let room = room_in c.args.self.now.front.arms.force c.args.fields.now c.args.j c.requires.2 c.requires.1 in
+    (part_long c.loop-k.out (36 * (c.args.j * length c.args.fields.now + c.loop-k.k)) (omega (arith, room.0, c.requires.3, c.loop-k.invariant.2)), c.row-y.ensures.0)
+
+pub carried-x-requires : goal.carried-x-requires
+carried-x-requires c =
+    let room = room_in c.args.self.now.front.arms.force c.args.fields.now c.args.j c.requires.2 c.requires.1 in
+    (room_least c.loop-k.k 256 c.loop-k.x (omega (arith, room.0, room.1)) c.loop-k.invariant.3, c.args.self.now.share_in)
 
 pub loop-k-preserved : goal.loop-k-preserved
 loop-k-preserved c =
@@ -91,29 +114,29 @@ loop-k-preserved c =
     let n = length a.fields.now in
     let room = room_in force a.fields.now a.j c.requires.2 c.requires.1 in
     let k = c.loop-k.k in
+    let i = a.j * n + k in
+    let out = c.loop-k.out in
     let water = k * s.water.step in
     let rear = a.j * s.rear.step in
     let inv = c.loop-k.invariant in
     let count = c.requires.2.count in
     let taken : k < n = c.loop-k-test.true in
     let field = c.requires.2.each k (omega (arith, count, taken)) in
-    let g₀ = plain a.b in
-    let h₀ = c.beside-x.ensures.1 in
-    let none₀ = c.with_none-span.ensures.1 g₀ rear h₀ (part_with a.b rear) in
-    let whole = (c.put_row-none.ensures.1 g₀ rear water c.field-field.ensures field (inv.4 g₀ h₀).0 none₀).1 in
+    let put : c.put_line.new.out ≡ written (take (length out - 36 * i) (drop (36 * i) out)) 0 (line rear water c.row-y.result) = c.put_line.ensures rear water c.field-field.ensures field in
+    let whole = written-part out c.put_line.new.out _ (36 * i) put in
     let next : (k + 1) * s.water.step ≡ water + s.water.step = omega (arith, add-mul k 1 s.water.step, one-mul s.water.step) in (
       omega arith,
-      omega (arith, c.put_row-none.ensures.0),
-      ap length whole ∙ length-written c.loop-k.out _ _ (rw length-line (omega (arith, room.0, c.requires.3, inv.2))) ∙ inv.2,
-      room-more k c.loop-k.x a.self.now.share c.carried-next.result c.carried-next.ensures.0 inv.3 a.self.now.share_in,
+      omega (arith, c.blank-none.ensures.1),
+      ap length whole ∙ length-written out _ _ (rw length-line (omega (arith, room.0, c.requires.3, inv.2))) ∙ inv.2,
+      room-more k c.loop-k.x a.self.now.share c.carried-x.result c.carried-x.ensures.0 inv.3 a.self.now.share_in,
       λ g h. (
-        rw next (c.carried-next.ensures.1 s g rear water (inv.4 g h).0 a.self.now.share_is),
+        rw next (c.carried-x.ensures.1 s g rear water (inv.4 g h).0 a.self.now.share_is),
         λ none.
-            let put = c.put_row-none.ensures.1 g rear water c.field-field.ensures field (inv.4 g h).0 none in
-            group_more s f g (a.j * n) k c.loop-k.none c.put_row-none.result a.out.now c.loop-k.out _ ((inv.4 g h).1 none)
+            let row_is = c.row-y.ensures.1 g rear water (inv.4 g h).0 none in
+            group_more s f g (a.j * n) k c.loop-k.none c.blank-none.result a.out.now out _ ((inv.4 g h).1 none)
             (omega (arith, room.0, c.requires.3))
-            (put.0 ∙ ap blanks (row_in s n count a.j k taken f g))
-            (put.1 ∙ ap (λ y. written c.loop-k.out (36 * (a.j * n + k)) y) (line_in_lem s n count a.j k taken f g)),
+            (c.blank-none.ensures.0 ∙ ap blanks (row_is ∙ row_in s n count a.j k taken f g))
+            (whole ∙ ap (λ y. written out (36 * i) y) (ap (λ y. line rear water y) row_is ∙ line_in_lem s n count a.j k taken f g)),
       ),
     )
 

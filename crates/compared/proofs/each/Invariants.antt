@@ -1,9 +1,0 @@
--- `compared::each` ends: each turn goes on to behind the next line feed.
-use Rattle.std.proofs.Common.{◌-◌, ◌≤◌, length}
-use Rattle.compared.proofs.each.Given as goal
-
-abbrev pub invariant-loop-at : goal.invariant-loop-at
-invariant-loop-at g l = l.at ≤ length l.s
-
-abbrev pub decreases-loop-at : goal.decreases-loop-at
-decreases-loop-at g l = length l.s - l.at

@@ -1,0 +1,17 @@
+-- `entries::put_stored` meets its contract: the kind, and behind it the fields. Assumes nothing.
+use Rattle.std.proofs.Common.{ℕ, ◌+◌, List, set, ap, ◌∙◌, arith}
+use Rattle.laws.specs.Written.{written, written_behind}
+use Rattle.paper.specs.Numbers.{code_of}
+use Rattle.paper.specs.File.{values_of, fields_bytes}
+use Rattle.format.specs.Rows.{fields_at}
+use Rattle.entries.proofs.Rows.{code}
+use Rattle.entries.proofs.put_stored.Goals as goal
+
+pub returns : goal.returns
+returns g c =
+    let a = c.args in
+    let t = g.T.Stored in
+    let xs : List ℕ = fields_bytes (fields_at t.kind) (values_of (t.entry a.x)) in (
+      omega (arith, c.LENGTH.ensures),
+      c.put.ensures ∙ ap (λ (n : ℕ). written (set a.out.now a.at n) (a.at + 1) xs) (code a.kind) ∙ written_behind a.out.now a.at (code_of a.kind) xs (omega arith),
+    )

@@ -1,2 +1,0 @@
--- The words of an entry's fields.
-pub mod Words

@@ -1,0 +1,2 @@
+-- The values of a kind's fields.
+pub mod Values

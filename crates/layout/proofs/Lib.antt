@@ -1,2 +1,0 @@
--- What the proofs share: a kind that the table does not have.
-pub mod Rows

@@ -1,9 +1,0 @@
--- `logbooks::cases::each` ends: each turn goes on to behind the next tilde.
-use Rattle.std.proofs.Common.{◌-◌, ◌≤◌, length}
-use Rattle.logbooks.proofs.cases.each.Given as goal
-
-abbrev pub invariant-loop-at : goal.invariant-loop-at
-invariant-loop-at g l = l.at ≤ length l.s
-
-abbrev pub decreases-loop-at : goal.decreases-loop-at
-decreases-loop-at g l = length l.s - l.at
