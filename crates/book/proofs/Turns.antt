@@ -47,13 +47,15 @@ IsLine s i k xs = (k ≡ i) × (i < length (split feed s)) × (xs ≡ get_or (sp
 abbrev pub parts : List ℕ → List (ℕ × List ℕ)
 parts s = enumerate_from 0 (slice_split (λ (b : ℕ). eqb b feed) s)
 
+add_none : (i : ℕ) → 0 + i ≡ i
+add_none i = omega arith
+
 pub line_here : (s : List ℕ) (i k : ℕ) (xs : List ℕ) → (i < length (parts s)) × ((k, xs) ≡ get_or (parts s) i (k, xs)) → IsLine s i k xs
 line_here s i k xs t =
     let ps = slice_split (λ (b : ℕ). eqb b feed) s in
     let few : i < length ps = rw (length-enumerate_from 0 ps) at t.0 in
     let e : (k, xs) ≡ (0 + i, get_or ps i xs) = t.1 ∙ get_or-enumerate_from 0 ps i (k, xs) few in
-    let at : 0 + i ≡ i = omega arith in
-    (ap (λ (p : ℕ × List ℕ). p.0) e ∙ at, rw (split_is feed s) at few, rw (split_is feed s) at (ap (λ (p : ℕ × List ℕ). p.1) e))
+    (ap (λ (p : ℕ × List ℕ). p.0) e ∙ add_none i, rw (split_is feed s) at few, rw (split_is feed s) at (ap (λ (p : ℕ × List ℕ). p.1) e))
 
 pub no_more : (s : List ℕ) (i : ℕ) → i ≡ length (parts s) → length (split feed s) ≤ i
 no_more s i e =
