@@ -1,2 +1,3 @@
 -- The logbook.
 pub mod Books
+pub mod Failures

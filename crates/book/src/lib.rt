@@ -19,6 +19,11 @@ pub enum Failure {
 }
 
 impl fmt::Display for Failure {
+    ghost use Rattle.std.specs.Prelude.{Some};
+    ghost use Rattle.book.specs.Failures.{failure_text};
+
+    ghost output = { λ x. Some (failure_text x) };
+
     fn fmt<W: fmt::Write>(&self, f: &mut fmt::Formatter<W>) -> fmt::Result {
         match self {
             Failure::Refused(line, why) => {
