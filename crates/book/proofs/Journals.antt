@@ -4,6 +4,7 @@ use mathlib.Core.Path.{◌≡◌, refl, sym, ap, ◌∙◌}
 use mathlib.Core.Bool.{Bool, true, false, cond, true≢false}
 use mathlib.Core.List.{List, [], ◌∷◌}
 use Prim.Native.Nat.{ℕ, suc}
+use Rattle.std.specs.Prelude.{Result, Ok}
 use lib.Dec.{eqb}
 use borrow.Author.Tests.{eqb-true}
 use Rattle.laws.specs.Splits.{split}
@@ -16,8 +17,8 @@ use Rattle.language.specs.declared.Line.TheVariants as line
 use Rattle.language.specs.Lines.{says}
 use Rattle.book.proofs.Turns.{refused_stays, not_understood_stays}
 use Rattle.record.specs.Held.{record_of}
-use Rattle.book.specs.declared.Reading.{Reading}
-use Rattle.book.specs.declared.Ending.TheVariants as ending
+use Rattle.record.specs.declared.Record.{Record}
+use Rattle.book.specs.declared.Failure.{Failure}
 use Rattle.book.specs.Books.{Outcome, stands, refused, not_understood, called, after_line, after_lines, book_of, reading_of}
 use Rattle.book.proofs.read.Reads as read
 
@@ -77,16 +78,16 @@ journal_of_book xs es h = lines_give 0 [] es (split feed xs) h
 
 -- ---- the call
 
--- a reading that is whole is of lines that come to a list
-whole_by : (o : Outcome) (k : Reading) → k ≡ reading_of o → k.ending ≡ ending.Whole → (es : List Entry) × (o ≡ stands es) × (k.log ≡ record_of es)
-whole_by (stands es) k e w = (es, refl, ap (λ (r : Reading). r.log) e)
-whole_by (refused i n) k e w = let no : ending.Refused i n ≡ ending.Whole = sym (ap (λ (r : Reading). r.ending) e) ∙ w in absurd (true≢false cc)
-whole_by (not_understood i) k e w = let no : ending.NotUnderstood i ≡ ending.Whole = sym (ap (λ (r : Reading). r.ending) e) ∙ w in absurd (true≢false cc)
+-- a reading that gives a record is of lines that come to a list
+whole_by : (o : Outcome) (r : Record) → ◌≡◌ {A = Result Record Failure} (Ok r) (reading_of o) → (es : List Entry) × (o ≡ stands es) × (r ≡ record_of es)
+whole_by (stands es) r e = (es, refl, cc)
+whole_by (refused i n) r e = cc
+whole_by (not_understood i) r e = cc
 
--- A logbook that `book::read` takes to its end gives the record of the journal of its lines' calls, each of them accepted.
-pub whole_book : (κs : _) (i i' : _) (k : Reading) → read.Post κs (i, tt) k (i', tt) → k.ending ≡ ending.Whole
-    → (k.log ≡ record_of (journal (calls_of (split feed i.now)))) × Each (λ (n : ℕ). n ≡ 0) (numbers (calls_of (split feed i.now)))
-whole_book κs i i' k h w =
-    let found = whole_by (book_of i.now) k h w in
+-- A logbook of which `book::read` gives a record: it is the record of the journal of its lines' calls, each of them accepted.
+pub whole_book : (κs : _) (i i' : _) (k : Result Record Failure) (r : Record) → read.Post κs (i, tt) k (i', tt) → k ≡ Ok r
+    → (r ≡ record_of (journal (calls_of (split feed i.now)))) × Each (λ (n : ℕ). n ≡ 0) (numbers (calls_of (split feed i.now)))
+whole_book κs i i' k r h w =
+    let found = whole_by (book_of i.now) r (sym w ∙ h) in
     let calls = journal_of_book i.now found.0 found.1 in
     (found.2 ∙ ap record_of (sym calls.0), calls.1)

@@ -1,16 +1,17 @@
 -- The logbook: a text whose lines, in turn, are calls on a fresh record.
-use Rattle.std.specs.Prelude.{cond, List, [], ◌∷◌, ℕ, suc, eqb}
+use Rattle.std.specs.Prelude.{cond, List, [], ◌∷◌, ℕ, suc, eqb, Result, Ok, Err}
 use Rattle.laws.specs.Splits.{split}
 use Rattle.paper.specs.declared.Entry.{Entry}
+use Rattle.paper.specs.Numbers.{refusal_of}
 use Rattle.paper.specs.Placard.{feed}
 use Rattle.paper.specs.Journal.{Call, undo, call_of, call_number, accepted_call}
+use Rattle.record.specs.declared.Record.{Record}
 use Rattle.record.specs.Held.{record_of}
 use Rattle.language.specs.declared.Line.{Line}
 use Rattle.language.specs.declared.Line.TheVariants as line
 use Rattle.language.specs.Lines.{says}
-use Rattle.book.specs.declared.Reading.{Reading}
-use Rattle.book.specs.declared.Ending.{Ending}
-use Rattle.book.specs.declared.Ending.TheVariants as ending
+use Rattle.book.specs.declared.Failure.{Failure}
+use Rattle.book.specs.declared.Failure.TheVariants as failure
 
 -- what lines come to: the list that their calls give, or the number of the first line that is refused, with its number of
 -- refusal, or that is not understood
@@ -41,13 +42,9 @@ after_lines i (not_understood j) (l ∷ ls) = not_understood j
 unfoldable pub book_of : List ℕ → Outcome
 book_of xs = after_lines 0 (stands []) (split feed xs)
 
--- ---- as the code holds it
+-- ---- as the code holds it: the record, or why there is none
 
--- a logbook that fails gives no record
-abbrev pub failing : Ending → Reading
-failing x = record { log = record_of []; ending = x }
-
-abbrev pub reading_of : Outcome → Reading
-reading_of (stands es) = record { log = record_of es; ending = ending.Whole }
-reading_of (refused i n) = failing (ending.Refused i n)
-reading_of (not_understood i) = failing (ending.NotUnderstood i)
+abbrev pub reading_of : Outcome → Result Record Failure
+reading_of (stands es) = Ok (record_of es)
+reading_of (refused i n) = Err (failure.Refused i (refusal_of n))
+reading_of (not_understood i) = Err (failure.NotUnderstood i)

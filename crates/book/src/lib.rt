@@ -2,73 +2,64 @@
 
 // The logbook: a text whose lines, in turn, are calls on a fresh record.
 ghost use Rattle.std.specs.Prelude.{◌≡◌};
-ghost use Rattle.book.specs.Books.{book_of, failing, reading_of};
+ghost use Rattle.book.specs.Books.{book_of, reading_of};
 
-use judge::{Judged, Standing, Weighed};
+use judge::Standing;
 use language::Line;
-use record::{Record, Slot};
+use paper::Refusal;
+use record::Record;
+use std::error::Error;
+use std::fmt;
 
-// How a logbook ends: whole, or at the line with this number, with the number of refusal where its call is refused.
-#[derive(Clone, Copy)]
-pub enum Ending {
-    Whole,
-    Refused(usize, u64),
+// Why a logbook is no record: the line with this number is refused, or not understood.
+#[derive(Clone, Copy, PartialEq, Eq)]
+pub enum Failure {
+    Refused(usize, Refusal),
     NotUnderstood(usize),
 }
 
-// What a logbook comes to: its record, which is a fresh one where it fails, and how it ends.
-#[derive(Clone, Copy)]
-pub struct Reading {
-    pub log: Record,
-    pub ending: Ending,
+impl fmt::Display for Failure {
+    fn fmt<W: fmt::Write>(&self, f: &mut fmt::Formatter<W>) -> fmt::Result {
+        match self {
+            Failure::Refused(line, why) => {
+                let number = u64::from(*why);
+                write!(f, "line {line}: refused {number}")
+            }
+            Failure::NotUnderstood(line) => write!(f, "line {line}: not understood"),
+        }
+    }
 }
 
-fn failing(ending: Ending) -> Reading
-    ensures { result ≡ failing ending }
-{
-    let log = Record::fresh();
-    Reading { log, ending }
+// As a program reports it: a refusal has a number, and no other text.
+impl fmt::Debug for Failure {
+    fn fmt<W: fmt::Write>(&self, f: &mut fmt::Formatter<W>) -> fmt::Result {
+        fmt::Display::fmt(self, f)
+    }
 }
+
+impl Error for Failure {}
 
 // A logbook from its first line to its last. The record stays here: an accepted entry is stored in place.
-pub fn read(s: &[u8]) -> Reading
+pub fn read(s: &[u8]) -> Result<Record, Failure>
     ensures { result ≡ reading_of (book_of s.now) }
 {
     let mut log = Record::fresh();
-    let mut standing = Standing {
-        weighed: Weighed::Never,
-        sheet: 0,
-    };
-    let mut at = 0;
-    let mut line = 0;
-    while at < s.len() {
-        let end = laws::find(s, at, s.len(), b'\n');
-        let said = language::read_line(&s[at..end]);
-        at = language::behind(s, end);
-        line += 1;
-        match said {
+    let mut standing = Standing::new();
+    for (i, text) in s.split(|x| *x == b'\n').enumerate() {
+        let line = i + 1;
+        match language::read_line(text) {
             Line::Passed => {}
-            Line::NotUnderstood => return failing(Ending::NotUnderstood(line)),
+            Line::NotUnderstood => return Err(Failure::NotUnderstood(line)),
             Line::Undo => {
-                let k = log.undo();
-                if k.number != 0 {
-                    return failing(Ending::Refused(line, k.number));
-                }
-                let now = record::replay(k.log);
-                log = now.log;
-                standing = now.standing;
+                log.undo().map_err(|why| Failure::Refused(line, why))?;
+                standing = record::replay(&log).standing;
             }
-            Line::Entry(e) => match judge::judge(log.count, standing, e) {
-                Judged::Refused(number) => return failing(Ending::Refused(line, number)),
-                Judged::Accepted(next) => {
-                    let n = log.count;
-                    log.slots[n] = Slot { entry: e };
-                    log.count = n + 1;
-                    standing = next;
-                }
-            },
+            Line::Entry(e) => {
+                standing.add(e).map_err(|why| Failure::Refused(line, why))?;
+                log.slots[log.count] = e;
+                log.count += 1;
+            }
         }
     }
-    let ending = Ending::Whole;
-    Reading { log, ending }
+    Ok(log)
 }

@@ -19,8 +19,8 @@ length-comment c = simp length-append (omega arith)
 
 -- Where total and moment are whole grams, a comment has their numbers.
 pub whole_comment :
-    (number n : ℕ)
+    (n : ℕ)
     (z centre : ℤ)
-    → comment (record { number = number; total = 2 * n; moment = half_grams z; centre = centre }) ≡ total_text ++ decimal n ++ moment_text ++ numeral z ++ centre_text ++ numeral centre ++ feed ∷ []
+    → comment (record { total = 2 * n; moment = half_grams z; centre = centre }) ≡ total_text ++ decimal n ++ moment_text ++ numeral z ++ centre_text ++ numeral centre ++ feed ∷ []
 unfolding comment
-whole_comment number n z centre = rw (whole_total n, whole_moment z)
+whole_comment n z centre = rw (whole_total n, whole_moment z)

@@ -10,13 +10,15 @@ use lib.Dec.{ltb, eqb}
 use lib.ListN.{length, take, drop}
 use lib.Seq.{take-append_seam}
 use borrow.Author.Tests.{eqb-true}
+use denote.Ref.{Bor}
+use Rattle.std.specs.Prelude.{Result, Ok, Err}
 use Rattle.laws.specs.Splits.{split, split-part}
 use Rattle.laws.specs.Lists.{Each, each_more, each_append}
 use Rattle.laws.specs.Tests.{left, right}
 use Rattle.paper.specs.declared.Entry.{Entry}
 use Rattle.paper.specs.declared.Entry.TheVariants as entry
 use Rattle.paper.specs.declared.CentreOfGravity.{CentreOfGravity}
-use Rattle.paper.specs.declared.Written.{Written}
+use Rattle.paper.specs.declared.Refusal.{Refusal}
 use Rattle.paper.specs.Placard.{feed}
 use Rattle.paper.specs.Refusals.{first_number, ◌when◌, entry_number, accepted_after, accepted}
 use Rattle.paper.specs.Journal.{call_of}
@@ -33,12 +35,11 @@ use Rattle.record.specs.declared.Record.{Record}
 use Rattle.record.specs.Held.{held_by}
 use Rattle.record.proofs.Replays.{held_accepted}
 use Rattle.record.proofs.Following.{Made}
-use Rattle.book.specs.declared.Reading.{Reading}
-use Rattle.book.specs.declared.Ending.TheVariants as ending
+use Rattle.book.specs.declared.Failure.{Failure}
 use Rattle.book.specs.Books.{Outcome, stands, called, after_line, after_lines, book_of, reading_of}
 use Rattle.book.proofs.Turns.{called-accepted}
 use Rattle.book.proofs.read.Reads as read
-use Rattle.listing.specs.Listings.{total_text, moment_text, centre_text, halves, signed_halves, comment, remark, lines_of, listed_after, listing, listed_answer}
+use Rattle.listing.specs.Listings.{total_text, moment_text, centre_text, halves, signed_halves, comment, comes_to, remark, lines_of, listed_after, listing, listed_answer}
 use Rattle.listing.proofs.Halves.{halves_above, signed_above}
 use Rattle.listing.proofs.Readables.{entry_readable}
 use Rattle.listing.proofs.show.Reads as show
@@ -107,12 +108,16 @@ comment_passed i es c rest =
     ∙ passed_line i es (said c) (split feed rest) (signed c)
 
 -- what follows an entry's line changes nothing
-remark_passed : (es : List Entry) (c : CentreOfGravity) (f : Entry) (rest : List ℕ) (o : Outcome) → ((j : ℕ) → after_lines j (stands es) (split feed rest) ≡ o) → (i : ℕ) → after_lines i (stands es) (split feed (remark c f ++ rest)) ≡ o
+comes_to_passed : (es : List Entry) (c : Result CentreOfGravity Refusal) (rest : List ℕ) (o : Outcome) → ((j : ℕ) → after_lines j (stands es) (split feed rest) ≡ o) → (i : ℕ) → after_lines i (stands es) (split feed (comes_to c ++ rest)) ≡ o
+comes_to_passed es (Ok c) rest o h i = comment_passed i es c rest ∙ h (suc i)
+comes_to_passed es (Err f) rest o h i = h i
+
+remark_passed : (es : List Entry) (c : Result CentreOfGravity Refusal) (f : Entry) (rest : List ℕ) (o : Outcome) → ((j : ℕ) → after_lines j (stands es) (split feed rest) ≡ o) → (i : ℕ) → after_lines i (stands es) (split feed (remark c f ++ rest)) ≡ o
 unfolding remark
-remark_passed es c (entry.Weighing w) rest o h i = comment_passed i es c rest ∙ h (suc i)
+remark_passed es c (entry.Weighing w) rest o h i = comes_to_passed es c rest o h i
 remark_passed es c (entry.Sheet s) rest o h i = h i
-remark_passed es c (entry.Change x) rest o h i = comment_passed i es c rest ∙ h (suc i)
-remark_passed es c (entry.Paired x) rest o h i = comment_passed i es c rest ∙ h (suc i)
+remark_passed es c (entry.Change x) rest o h i = comes_to_passed es c rest o h i
+remark_passed es c (entry.Paired x) rest o h i = comes_to_passed es c rest o h i
 remark_passed es c (entry.Seat f) rest o h i = h i
 
 -- ---- a listing
@@ -139,28 +144,28 @@ listed_read es h = listed_after_lem [] es h 0
 
 -- ---- the calls
 
--- what is written where the answer's number is 0
-written_by_lem : (t : Bool) (xs s : List ℕ) → (written_by (first_number (11 when t ∷ [])) xs s).0.number ≡ 0 → written_by (first_number (11 when t ∷ [])) xs s ≡ (record { number = 0; length = length xs }, over xs s)
+-- what is written where the answer is a length
+written_by_lem : (t : Bool) (xs s out : List ℕ) (n : ℕ) → ◌≡◌ {A = Result ℕ Refusal × List ℕ} (Ok n, out) (written_by (first_number (11 when t ∷ [])) xs s) → (n ≡ length xs) × (out ≡ over xs s)
 unfolding written_by first_number
-written_by_lem true xs s e = absurd (omega (arith, e))
-written_by_lem false xs s e = refl
+written_by_lem true xs s out n e = let no = ap (λ (p : Result ℕ Refusal × List ℕ). p.0) e in cc
+written_by_lem false xs s out n e =
+    let size = ap (λ (p : Result ℕ Refusal × List ℕ). p.0) e in
+    (cc, ap (λ (p : Result ℕ Refusal × List ℕ). p.1) e)
 
-listed : (es : List Entry) (s t : List ℕ) (a : Written) → a ≡ (listed_answer es s).0 → t ≡ (listed_answer es s).1 → a.number ≡ 0 → take a.length t ≡ listing es
+listed : (es : List Entry) (s t : List ℕ) (a : Result ℕ Refusal) (n : ℕ) → ◌≡◌ {A = Result ℕ Refusal × List ℕ} (a, t) (listed_answer es s) → a ≡ Ok n → take n t ≡ listing es
 unfolding listed_answer over
-listed es s t a e f n =
+listed es s t a n e k =
     let xs = listing es in
-    let w = written_by_lem (ltb (length s) (length xs)) xs s (sym (ap (λ (b : Written). b.number) e) ∙ n) in
-    let a-is : a ≡ record { number = 0; length = length xs } = e ∙ ap (λ p. p.0) w in
-    let t-is : t ≡ over xs s = f ∙ ap (λ p. p.1) w in
-    rw (a-is, t-is) (take-append_seam xs (drop (length xs) s))
+    let w = written_by_lem (ltb (length s) (length xs)) xs s t n (rw k at e) in
+    rw (w.0, w.1) (take-append_seam xs (drop (length xs) s))
 
 -- A record that calls give, shown into any buffer that holds its listing, and that listing read as a logbook, is the same record.
 pub shown_then_read : (r : Record) → Made r
-    → (κs : _) (o o' : _) (a : Written) → show.Post κs (r, (o, tt)) a (r, (o', tt)) → a.number ≡ 0
-    → (λs : _) (i i' : _) (k : Reading) → read.Post λs (i, tt) k (i', tt) → i.now ≡ take a.length o'.now
-    → k ≡ record { log = r; ending = ending.Whole }
-shown_then_read r m κs o o' a w n λs i i' k c e =
+    → (κs : _) (q q' : Bor Record) (o o' : _) (a : Result ℕ Refusal) (n : ℕ) → q.now ≡ r → show.Post κs (q, (o, tt)) a (q', (o', tt)) → a ≡ Ok n
+    → (λs : _) (i i' : _) (k : Result Record Failure) → read.Post λs (i, tt) k (i', tt) → i.now ≡ take n o'.now
+    → k ≡ Ok r
+shown_then_read r m κs q q' o o' a n s w l λs i i' k c e =
     let es = held_by r in
-    let part : i.now ≡ listing es = e ∙ listed es o.now o'.now a w.0 w.1 n in
-    let log : reading_of (stands es) ≡ record { log = r; ending = ending.Whole } = ap (λ (q : Record). record { log = q; ending = ending.Whole }) (sym m) in
+    let part : i.now ≡ listing es = e ∙ listed es o.now o'.now a n (rw s at w) l in
+    let log : reading_of (stands es) ≡ Ok r = ap {B = Result Record Failure} (λ (x : Record). Ok x) (sym m) in
     c ∙ ap (λ (xs : List ℕ). reading_of (book_of xs)) part ∙ ap reading_of (listed_read es (held_accepted r)) ∙ log

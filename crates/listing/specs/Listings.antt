@@ -1,10 +1,10 @@
 -- The listing of a record: its entries as lines of a logbook, and behind each weighing and change a comment that says what it
 -- comes to.
-use Rattle.std.specs.Prelude.{cond, List, [], ◌∷◌, ◌++◌, ℕ, suc, ◌/◌, ◌%◌, ltb, eqb, ℤ, pos, negsuc, length}
+use Rattle.std.specs.Prelude.{cond, List, [], ◌∷◌, ◌++◌, ℕ, suc, ◌/◌, ◌%◌, ltb, eqb, ℤ, pos, negsuc, length, Result, Ok, Err}
 use Rattle.paper.specs.declared.Entry.{Entry}
 use Rattle.paper.specs.declared.Entry.TheVariants as entry
 use Rattle.paper.specs.declared.CentreOfGravity.{CentreOfGravity}
-use Rattle.paper.specs.declared.Written.{Written}
+use Rattle.paper.specs.declared.Refusal.{Refusal}
 use Rattle.paper.specs.Placard.{feed, hyphen, point}
 use Rattle.paper.specs.Answers.{centre_answer, written_by}
 use Rattle.paper.specs.Refusals.{first_number, ◌when◌}
@@ -35,16 +35,21 @@ unfoldable pub comment : CentreOfGravity → List ℕ
 comment c =
     total_text ++ halves c.total ++ moment_text ++ signed_halves c.moment ++ centre_text ++ numeral c.centre ++ feed ∷ []
 
+-- what a list comes to, as a comment: none before a weighing, where no weighing and no change is accepted
+abbrev pub comes_to : Result CentreOfGravity Refusal → List ℕ
+comes_to (Ok c) = comment c
+comes_to (Err f) = []
+
 -- what follows an entry's line, where a list that ends with the entry comes to c
-unfoldable pub remark : CentreOfGravity → Entry → List ℕ
-remark c (entry.Weighing w) = comment c
+unfoldable pub remark : Result CentreOfGravity Refusal → Entry → List ℕ
+remark c (entry.Weighing w) = comes_to c
 remark c (entry.Sheet s) = []
-remark c (entry.Change x) = comment c
-remark c (entry.Paired x) = comment c
+remark c (entry.Change x) = comes_to c
+remark c (entry.Paired x) = comes_to c
 remark c (entry.Seat f) = []
 
 -- the lines of such an entry
-unfoldable pub lines_of : CentreOfGravity → Entry → List ℕ
+unfoldable pub lines_of : Result CentreOfGravity Refusal → Entry → List ℕ
 lines_of c e = entry_text e ++ feed ∷ remark c e
 
 -- the lines of entries behind a list
@@ -56,5 +61,5 @@ unfoldable pub listing : List Entry → List ℕ
 listing es = listed_after [] es
 
 -- the answer, and the buffer as the call leaves it: 11 where the buffer is too short
-unfoldable pub listed_answer : List Entry → List ℕ → Written × List ℕ
+unfoldable pub listed_answer : List Entry → List ℕ → Result ℕ Refusal × List ℕ
 listed_answer es buffer = written_by (first_number (11 when ltb (length buffer) (length (listing es)) ∷ [])) (listing es) buffer

@@ -8,8 +8,8 @@ ghost use Rattle.record.specs.Held.{held_by};
 ghost use Rattle.listing.specs.Listings.{halves, signed_halves, comment, remark, lines_of, listing, listed_answer};
 
 use arrayvec::ArrayString;
-use judge::{Judged, Standing, Weighed};
-use paper::{CAPACITY, CentreOfGravity, Entry, Weight, Written};
+use judge::Standing;
+use paper::{CentreOfGravity, Entry, Refusal, Weight};
 use record::Record;
 
 // Room for every listing: 64 entries, each with its comment of at most 430 bytes.
@@ -54,19 +54,19 @@ fn put_comment(text: &mut Text, c: CentreOfGravity)
 }
 
 // What follows the line of an entry, where the record up to it comes to `c`.
-fn put_remark(text: &mut Text, c: CentreOfGravity, e: Entry)
+#[tactic(auto, unfolding(crate::specs::Listings::remark))]
+fn put_remark(text: &mut Text, c: Result<CentreOfGravity, Refusal>, e: Entry)
     requires { array_string_len text.old + length (remark c e) ≤ 27520 }
     ensures { text.new.bytes ≡ text.old.bytes ++ remark c e }
 {
-    match e {
-        Entry::Sheet(_) => {}
-        Entry::Seat(_) => {}
-        _ => put_comment(text, c),
+    match (e, c) {
+        (Entry::Sheet(_) | Entry::Seat(_), _) | (_, Err(_)) => {}
+        (_, Ok(c)) => put_comment(text, c),
     }
 }
 
 // The lines of such an entry.
-fn put_lines(text: &mut Text, c: CentreOfGravity, e: Entry)
+fn put_lines(text: &mut Text, c: Result<CentreOfGravity, Refusal>, e: Entry)
     requires { Readable e × (array_string_len text.old + length (lines_of c e) ≤ 27520) }
     ensures { text.new.bytes ≡ text.old.bytes ++ lines_of c e }
 {
@@ -76,41 +76,28 @@ fn put_lines(text: &mut Text, c: CentreOfGravity, e: Entry)
 }
 
 // The lines of the entries that a record holds.
-fn listing_of(r: Record) -> Text
-    ensures { result.bytes ≡ listing (held_by r) }
+fn listing_of(r: &Record) -> Text
+    ensures { result.bytes ≡ listing (held_by r.now) }
 {
     let mut text = Text::new();
-    let mut standing = Standing {
-        weighed: Weighed::Never,
-        sheet: 0,
-    };
-    let mut n = 0;
-    for slot in &r.slots[..r.count.min(CAPACITY)] {
-        let e = slot.entry;
-        match judge::judge(n, standing, e) {
-            Judged::Refused(_) => {}
-            Judged::Accepted(next) => {
-                put_lines(&mut text, centre::answer(next), e);
-                standing = next;
-                n += 1;
-            }
+    let mut standing = Standing::new();
+    for e in r.slots.iter().take(r.count) {
+        if standing.add(*e).is_ok() {
+            put_lines(&mut text, centre::answer(&standing), *e);
         }
     }
     text
 }
 
-// The listing: 11 where the buffer is too short, and then no byte of it changes.
-pub fn show(r: Record, out: &mut [u8]) -> Written
-    ensures { (result ≡ (listed_answer (held_by r) out.old).0) × (out.new ≡ (listed_answer (held_by r) out.old).1) }
+// The listing, and how many bytes it has: 11 where the buffer is too short, and then no byte of it changes.
+pub fn show(r: &Record, out: &mut [u8]) -> Result<usize, Refusal>
+    ensures { (result, out.new) ≡ listed_answer (held_by r.now) out.old }
 {
     let text = listing_of(r);
     let length = text.len();
     if out.len() < length {
-        return Written {
-            number: 11,
-            length: 0,
-        };
+        return Err(Refusal::ShortBuffer);
     }
     laws::copy(text.as_bytes(), out);
-    Written { number: 0, length }
+    Ok(length)
 }

@@ -1,94 +1,90 @@
--- `book::read` meets its contract. The loop's invariant: the lines up to the place are read (`ReadTo`); the measure is what is
--- left of the text. A line's turn goes by what it says (`Places`). Assumes nothing.
-use mathlib.Core.Path.{◌≡◌, sym, ◌∙◌}
-use mathlib.Core.List.{List}
-use Prim.Native.Nat.{ℕ, suc, ◌+◌, ◌≤◌, ◌<◌}
+-- `book::read` meets its contract. The loop's invariant: the lines that came are read (`ReadTo`), and the iterator that the loop
+-- began with gives the lines of the text, numbered from 0. A line's turn goes by what it says (`Places`). Assumes nothing.
+use Rattle.std.proofs.Common.{rules, tests, ◌≡◌, refl, sym, ap, ◌∙◌, eqb, Result, Err}
 use native.Mathlib.Omega.{arith}
-use lib.ListN.{length, drop}
-use Rattle.laws.specs.Bytes.{index_of, slice}
+use Prim.Native.Nat.{ℕ, ◌+◌}
+use Rattle.std.proofs.lemmas.Iterator.Consumers.{YieldsList-at, YieldsList-from_enumerate, YieldsList-turn, YieldsList-end}
+use Rattle.std.proofs.lemmas.Iterator.Splits.{YieldsList-from_slice_split}
+use Rattle.std.proofs.lemmas.List.{length_push}
 use Rattle.paper.specs.Placard.{feed}
-use Rattle.judge.proofs.Judging.{room_of}
-use Rattle.record.proofs.Replays.{stands_at}
-use Rattle.book.proofs.Places.{none_read, LineAt, goes_further, passed, not_understood_lem, refused_entry, added_entry, refused_undo, undone, all_read}
+use Rattle.paper.specs.Numbers.{number_in}
+use Rattle.record.specs.declared.Record.{Record}
+use Rattle.record.proofs.Calls.{ok_number}
+use Rattle.book.specs.declared.Failure.{Failure}
+use Rattle.book.specs.declared.Failure.TheVariants as failure
+use Rattle.book.proofs.Turns.{line_here, no_more, mapped}
+use Rattle.book.proofs.Places.{none_read, passed, not_understood_lem, refused_entry, entry_room, added_entry, refused_undo, undone, all_read}
 use Rattle.book.proofs.read.Goals as goal
 
--- a line is read, and the place is behind it
-line_at : (s : List ℕ) (at end then : ℕ) → at < length s → end ≡ at + index_of feed (slice at (length s) s) → (then ≤ length s) × (drop then s ≡ drop (suc end) s) → LineAt s at end then
-line_at s at end then h e b = record { here = h; found = e; most = b.0; behind = b.1 }
+pub loop-i-init : goal.loop-i-init
+loop-i-init c = (
+  none_read c.args.s.now c.fresh-log.result c.new-standing.result c.fresh-log.ensures c.new-standing.ensures,
+  YieldsList-at c.into_iter-i-iterator.ensures.into_iter_gives
+      (YieldsList-from_enumerate
+      (YieldsList-at c.enumerate-i-items.ensures.source
+      (YieldsList-from_slice_split _ (λ (x : ℕ). eqb x feed) c.args.s.now c.split.ensures.rest c.split.ensures.done c.split.ensures.closure (λ x r q k. search (rules, tests))))
+      c.enumerate-i-items.ensures.count),
+)
 
-pub loop-at-init : goal.loop-at-init
-loop-at-init c = none_read c.args.s.now c.fresh-log.result c.fresh-log.ensures
-
-pub loop-at-smaller-in-Passed : goal.loop-at-smaller-in-Passed
-loop-at-smaller-in-Passed c =
-    let l = line_at c.args.s.now c.loop-at.at c.find-end.result c.behind-at.result c.loop-at-test.true c.find-end.ensures.0 c.behind-at.ensures in
-    omega (arith, goes_further l, l.most)
-
-pub loop-at-preserved-in-Passed : goal.loop-at-preserved-in-Passed
-loop-at-preserved-in-Passed c =
-    let l = line_at c.args.s.now c.loop-at.at c.find-end.result c.behind-at.result c.loop-at-test.true c.find-end.ensures.0 c.behind-at.ensures in
-    passed l c.loop-at.invariant (sym c.read_line-said.ensures ∙ c.in-Passed.is)
+pub loop-i-preserved-in-Passed : goal.loop-i-preserved-in-Passed
+loop-i-preserved-in-Passed c =
+    let l = line_here c.args.s.now _ _ _ (YieldsList-turn c.loop-i.invariant.1 c.loop-i.yielded _ c.loop-i.yielded_by _ _ (c.in-Some.i, c.in-Some.text) c.in-Some.is c.next.ensures.steps) in
+    let more = length_push c.loop-i.yielded (c.in-Some.i, c.in-Some.text) in
+    (rw more (passed l c.loop-i.invariant.0 (sym c.read_line.ensures ∙ c.in-Passed.is)), c.loop-i.invariant.1)
 
 pub returns-in-NotUnderstood : goal.returns-in-NotUnderstood
 returns-in-NotUnderstood c =
-    let l = line_at c.args.s.now c.loop-at.at c.find-end.result c.behind-at.result c.loop-at-test.true c.find-end.ensures.0 c.behind-at.ensures in
-    c.failing.ensures ∙ not_understood_lem l c.loop-at.invariant (sym c.read_line-said.ensures ∙ c.in-NotUnderstood.is)
+    let l = line_here c.args.s.now _ _ _ (YieldsList-turn c.loop-i.invariant.1 c.loop-i.yielded _ c.loop-i.yielded_by _ _ (c.in-Some.i, c.in-Some.text) c.in-Some.is c.next.ensures.steps) in
+    not_understood_lem l c.loop-i.invariant.0 (sym c.read_line.ensures ∙ c.in-NotUnderstood.is)
 
-pub returns-then-k-ne0 : goal.returns-then-k-ne0
-returns-then-k-ne0 c =
-    let l = line_at c.args.s.now c.loop-at.at c.find-end.result c.behind-at.result c.loop-at-test.true c.find-end.ensures.0 c.behind-at.ensures in
-    let says_undo = sym c.read_line-said.ensures ∙ c.in-Undo.is in
-    c.failing-then-k-ne0.ensures ∙ refused_undo l c.loop-at.invariant says_undo c.undo-k.result c.undo-k.ensures c.if-k-ne0.true
+pub returns-in_err-map_err-in-Undo : goal.returns-in_err-map_err-in-Undo
+returns-in_err-map_err-in-Undo c =
+    let l = line_here c.args.s.now _ _ _ (YieldsList-turn c.loop-i.invariant.1 c.loop-i.yielded _ c.loop-i.yielded_by _ _ (c.in-Some.i, c.in-Some.text) c.in-Some.is c.next.ensures.steps) in
+    let told : ◌≡◌ {A = Result Record Failure} c.from_residual.result (Err c.in_err-map_err-in-Undo.field-0.0) = search rules in
+    let f = mapped _ _ _ c.map_err.ensures.cases _ c.in_err-map_err-in-Undo.was in
+    let why : c.in_err-map_err-in-Undo.field-0.0 ≡ failure.Refused (c.in-Some.i + 1) f.0 = search rules in
+    rw (told, why) (refused_undo l c.loop-i.invariant.0 (sym c.read_line.ensures ∙ c.in-Undo.is) _ c.undo.ensures f.0 f.1)
 
-pub loop-at-smaller-in-Undo : goal.loop-at-smaller-in-Undo
-loop-at-smaller-in-Undo c =
-    let l = line_at c.args.s.now c.loop-at.at c.find-end.result c.behind-at.result c.loop-at-test.true c.find-end.ensures.0 c.behind-at.ensures in
-    omega (arith, goes_further l, l.most)
+pub loop-i-preserved-in-Undo : goal.loop-i-preserved-in-Undo
+loop-i-preserved-in-Undo c =
+    let l = line_here c.args.s.now _ _ _ (YieldsList-turn c.loop-i.invariant.1 c.loop-i.yielded _ c.loop-i.yielded_by _ _ (c.in-Some.i, c.in-Some.text) c.in-Some.is c.next.ensures.steps) in
+    let more = length_push c.loop-i.yielded (c.in-Some.i, c.in-Some.text) in
+    let none = ok_number c.undo.result (search rules) in
+    (rw more (undone l c.loop-i.invariant.0 (sym c.read_line.ensures ∙ c.in-Undo.is) _ c.undo.ensures none c.replay.result c.replay.ensures), c.loop-i.invariant.1)
 
-pub loop-at-preserved-in-Undo : goal.loop-at-preserved-in-Undo
-loop-at-preserved-in-Undo c =
-    let l = line_at c.args.s.now c.loop-at.at c.find-end.result c.behind-at.result c.loop-at-test.true c.find-end.ensures.0 c.behind-at.ensures in
-    let says_undo = sym c.read_line-said.ensures ∙ c.in-Undo.is in
-    undone l c.loop-at.invariant says_undo c.undo-k.result c.undo-k.ensures c.if-k-ne0.false c.replay-now.result c.replay-now.ensures
+pub returns-in_err-map_err-in-Entry : goal.returns-in_err-map_err-in-Entry
+returns-in_err-map_err-in-Entry c =
+    let l = line_here c.args.s.now _ _ _ (YieldsList-turn c.loop-i.invariant.1 c.loop-i.yielded _ c.loop-i.yielded_by _ _ (c.in-Some.i, c.in-Some.text) c.in-Some.is c.next.ensures.steps) in
+    let told : ◌≡◌ {A = Result Record Failure} c.from_residual-in_err-map_err-in-Entry.result (Err c.in_err-map_err-in-Entry.field-0.0) = search rules in
+    let f = mapped _ _ _ c.map_err-in-Entry.ensures.cases _ c.in_err-map_err-in-Entry.was in
+    let why : c.in_err-map_err-in-Entry.field-0.0 ≡ failure.Refused (c.in-Some.i + 1) f.0 = search rules in
+    rw (told, why) (refused_entry l c.loop-i.invariant.0 c.in-Entry.e (sym c.read_line.ensures ∙ c.in-Entry.is) _ _ c.add.ensures f.0 (sym (ap number_in f.1)))
 
-pub judge-requires : goal.judge-requires
-judge-requires c = (stands_at _ _ c.loop-at.invariant.is).sound
+pub offset_bounds-log-log : goal.offset_bounds-log-log
+offset_bounds-log-log c =
+    let l = line_here c.args.s.now _ _ _ (YieldsList-turn c.loop-i.invariant.1 c.loop-i.yielded _ c.loop-i.yielded_by _ _ (c.in-Some.i, c.in-Some.text) c.in-Some.is c.next.ensures.steps) in
+    let few = entry_room l c.loop-i.invariant.0 c.in-Entry.e (sym c.read_line.ensures ∙ c.in-Entry.is) _ _ c.add.ensures (ok_number c.add.result (search rules)) in
+    omega (arith, few)
 
-pub returns-in-Refused : goal.returns-in-Refused
-returns-in-Refused c =
-    let l = line_at c.args.s.now c.loop-at.at c.find-end.result c.behind-at.result c.loop-at-test.true c.find-end.ensures.0 c.behind-at.ensures in
-    let says_what = sym c.read_line-said.ensures ∙ c.in-Entry.is in
-    let no = rw c.in-Refused.is at c.judge.ensures in
-    c.failing-in-Refused.ensures
-    ∙ refused_entry l c.loop-at.invariant c.in-Entry.e says_what c.in-Refused.number no.0 (omega (arith, no.0, no.1))
-
--- an accepted entry finds a slot
-pub offset_bounds-log-n : goal.offset_bounds-log-n
-offset_bounds-log-n c =
-    let within = room_of c.loop-at.log.count _ _ (rw c.in-Accepted.is at c.judge.ensures).0 in
-    omega (arith, within)
-
-pub bounds-log-n : goal.bounds-log-n
-bounds-log-n c =
-    let within = room_of c.loop-at.log.count _ _ (rw c.in-Accepted.is at c.judge.ensures).0 in
-    omega (arith, within)
+pub bounds-log-log : goal.bounds-log-log
+bounds-log-log c =
+    let l = line_here c.args.s.now _ _ _ (YieldsList-turn c.loop-i.invariant.1 c.loop-i.yielded _ c.loop-i.yielded_by _ _ (c.in-Some.i, c.in-Some.text) c.in-Some.is c.next.ensures.steps) in
+    entry_room l c.loop-i.invariant.0 c.in-Entry.e (sym c.read_line.ensures ∙ c.in-Entry.is) _ _ c.add.ensures (ok_number c.add.result (search rules))
 
 pub overflow_add-log : goal.overflow_add-log
 overflow_add-log c =
-    let within = room_of c.loop-at.log.count _ _ (rw c.in-Accepted.is at c.judge.ensures).0 in
-    omega (arith, within)
+    let l = line_here c.args.s.now _ _ _ (YieldsList-turn c.loop-i.invariant.1 c.loop-i.yielded _ c.loop-i.yielded_by _ _ (c.in-Some.i, c.in-Some.text) c.in-Some.is c.next.ensures.steps) in
+    let few = entry_room l c.loop-i.invariant.0 c.in-Entry.e (sym c.read_line.ensures ∙ c.in-Entry.is) _ _ c.add.ensures (ok_number c.add.result (search rules)) in
+    omega (arith, few)
 
-pub loop-at-smaller : goal.loop-at-smaller
-loop-at-smaller c =
-    let l = line_at c.args.s.now c.loop-at.at c.find-end.result c.behind-at.result c.loop-at-test.true c.find-end.ensures.0 c.behind-at.ensures in
-    omega (arith, goes_further l, l.most)
-
-pub loop-at-preserved : goal.loop-at-preserved
-loop-at-preserved c =
-    let l = line_at c.args.s.now c.loop-at.at c.find-end.result c.behind-at.result c.loop-at-test.true c.find-end.ensures.0 c.behind-at.ensures in
-    let says_what = sym c.read_line-said.ensures ∙ c.in-Entry.is in
-    let yes = rw c.in-Accepted.is at c.judge.ensures in
-    added_entry l c.loop-at.invariant c.in-Entry.e says_what yes.0 c.in-Accepted.next yes.1 yes.2
+pub loop-i-preserved : goal.loop-i-preserved
+loop-i-preserved c =
+    let l = line_here c.args.s.now _ _ _ (YieldsList-turn c.loop-i.invariant.1 c.loop-i.yielded _ c.loop-i.yielded_by _ _ (c.in-Some.i, c.in-Some.text) c.in-Some.is c.next.ensures.steps) in
+    let more = length_push c.loop-i.yielded (c.in-Some.i, c.in-Some.text) in
+    let none = ok_number c.add.result (search rules) in
+    (rw more (added_entry l c.loop-i.invariant.0 c.in-Entry.e (sym c.read_line.ensures ∙ c.in-Entry.is) _ _ c.add.ensures none c.add.new.self refl), c.loop-i.invariant.1)
 
 pub returns : goal.returns
-returns c = all_read _ _ _ _ _ c.loop-at.invariant c.loop-at-test.false
+returns c =
+    let e = YieldsList-end c.loop-i.invariant.1 c.loop-i.yielded _ c.loop-i.yielded_by _ _ c.in-None.is c.next.ensures.steps in
+    all_read c.args.s.now c.loop-i.log c.loop-i.standing _ c.loop-i.invariant.0 (no_more c.args.s.now _ e.1)

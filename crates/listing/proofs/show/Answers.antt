@@ -1,6 +1,5 @@
 -- `listing::show` meets its contract: what is copied is the listing of the record's list. Assumes nothing.
-use mathlib.Core.Path.{sym, ap, ◌∙◌}
-use Prim.Native.Nat.{ℕ}
+use mathlib.Core.Path.{ap, ◌∙◌}
 use native.Mathlib.Omega.{arith}
 use lib.ListN.{length}
 use Rattle.record.specs.Held.{held_by}
@@ -12,15 +11,13 @@ pub returns-then-out-length : goal.returns-then-out-length
 returns-then-out-length c =
     let a = c.args in
     let size = c.len-length.ensures.value ∙ ap length c.listing_of-text.ensures in
-    let e = too_short (held_by a.r) a.out.now (omega (arith, size)) in
-    (sym (ap (λ x. x.0) e), sym (ap (λ x. x.1) e))
+    too_short (held_by a.r.now) a.out.now (omega (arith, size))
 
 pub returns : goal.returns
 returns c =
     let a = c.args in
-    let held = held_by a.r in
+    let held = held_by a.r.now in
     let size = c.len-length.ensures.value ∙ ap length c.listing_of-text.ensures in
     let text = c.as_bytes.ensures.value ∙ c.deref.ensures.0 ∙ c.listing_of-text.ensures in
-    let e = long_enough held a.out.now (omega (arith, size)) in
-    let out = copied a.out.now c.copy.new.out (listing held) c.as_bytes.result.now text c.copy.ensures.1 in
-    (ap (λ (k : ℕ). record { number = 0; length = k }) size ∙ sym (ap (λ x. x.0) e), out ∙ sym (ap (λ x. x.1) e))
+    long_enough held a.out.now _ _ (omega (arith, size)) size
+    (copied a.out.now c.copy.new.out (listing held) c.as_bytes.result.now text c.copy.ensures.1)
