@@ -65,7 +65,7 @@ kept_more es e n = rw (eq-eqb (entry_number es e) 0 n)
 -- the next entry is judged where the walk stands
 module _ (s : List ℕ) (k count i : ℕ) (c : Contents) (w : WalkedTo s k count i c) (t : Standing) (e : Entry) (n : ℕ) (j : ◌≡◌ {A = ℕ × Stands} (n, plainly t) (judged (plainly c.standing) e)) where
   pub number_there : n ≡ entry_number w.entries e
-  number_there = (judged_at w.entries c.standing t e n w.contents.stands j).0
+  number_there = (judged_at w.entries (plainly c.standing) (plainly t) e n w.contents.stands j).0
 
   -- one entry more, which gets no number
   pub gone_on : are_bytes s ≡ true → i < count → (place : ℕ) → walk_to k s c.end ≡ Some (e, place) → n ≡ 0 → WalkedTo s k count (i + 1) (record { standing = t; last = c.end; end = place })
@@ -78,7 +78,7 @@ module _ (s : List ℕ) (k count i : ℕ) (c : Contents) (w : WalkedTo s k count
         passed = one_passed s k count i c.end es w.passed b h e place g none;
         contents =
             record {
-              stands = (judged_at es c.standing t e n x.stands j).1 ∙ ap stands_in (kept_more es e none);
+              stands = (judged_at es (plainly c.standing) (plainly t) e n x.stands j).1 ∙ ap stands_in (kept_more es e none);
               last = x.end ∙ ap (λ (l : List Entry). 6 + length (bytes_in l)) (sym (without_more es e));
               end = place_here s c.end k b e place g ∙ omega (arith, x.end, length_in es e);
             };
