@@ -52,7 +52,10 @@ pub fn kept(rt: &impl Print, last: u64, log: &Record) -> io::Result<()> {
     let centre = Centre(log.centre_of_gravity());
     let refused = number(&answer);
     let length = answer.unwrap_or(0);
-    print!(rt; " {last} {centre} {refused} {length} {}", sum(first(&out, length)))
+    print!(rt;
+        " {last} {centre} {refused} {length} {}",
+        sum(first(&out, length))
+    )
 }
 
 // The bytes that digits of sixteen spell, read into a record.
