@@ -1,5 +1,5 @@
 // A line of output for each line of cases.
-use lines::Centre;
+use lines::{Centre, number};
 use record::Record;
 use script::calls::{head_and_calls, played};
 use std::io;
@@ -10,16 +10,15 @@ pub fn tried(rt: &impl Print, log: &mut Record, line: &[u8]) -> io::Result<()> {
         return Ok(());
     }
     let (label, calls) = head_and_calls(line);
-    let last = played(*log, calls);
-    *log = last.log;
-    let back = log.undo();
-    let (now, before) = (log.centre_of_gravity(), back.log.centre_of_gravity());
+    let last = played(log, calls);
+    let mut before = *log;
+    let back = before.undo();
     rt.write_all(label)?;
     println!(rt;
         ": {}; {}; {}; {}",
-        last.number,
-        Centre(now),
-        back.number,
-        Centre(before)
+        number(&last),
+        Centre(log.centre_of_gravity()),
+        number(&back),
+        Centre(before.centre_of_gravity())
     )
 }

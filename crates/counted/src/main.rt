@@ -3,7 +3,7 @@
 // Weighs a glider that has a record of 32 entries, one weighing and 31 changes, once for each byte on standard input, and
 // writes how many of these calls were accepted with a 33rd entry. So the difference of two runs under a counter of
 // instructions, by the difference of their inputs, is what one call costs.
-use paper::{Change, Weighing};
+use paper::{Change, Refusal, Weighing};
 use record::Record;
 use std::io;
 
@@ -31,28 +31,28 @@ fn part(c: i64) -> Change {
 }
 
 // A weighing, and a change for each entry behind it.
-fn filled() -> Record {
-    let first = Record::fresh().weigh(weighing(38_000));
-    let mut r = first.log;
+fn filled() -> Result<Record, Refusal> {
+    let mut r = Record::fresh();
+    r.weigh(weighing(38_000))?;
     for i in 1..ENTRIES {
-        let c = if i % 2 == 0 { -4_500 } else { 4_500 };
-        let next = r.change(part(c));
-        r = next.log;
+        r.change(part(if i % 2 == 0 { -4_500 } else { 4_500 }))?;
     }
-    r
+    Ok(r)
 }
 
 // So many weighings, each on the record as it was.
 fn accepted(r: Record, calls: usize) -> usize {
     (0..calls)
-        .map(|q| r.weigh(weighing(q as u64)))
-        .filter(|k| k.number == 0 && k.log.count == ENTRIES + 1)
+        .filter(|q| {
+            let mut log = r;
+            log.weigh(weighing(*q as u64)).is_ok() && log.count == ENTRIES + 1
+        })
         .count()
 }
 
 fn main(rt: HostRuntime) -> io::Result<()> {
     let mut input = [0u8; 4096];
     let calls = lines::read_full(&mut rt.reader(), &mut input)?;
-    let n = accepted(filled(), calls);
+    let n = filled().map_or(0, |r| accepted(r, calls));
     println!(rt; "{n} accepted")
 }

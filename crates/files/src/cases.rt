@@ -1,5 +1,6 @@
 // A line of output for each line of cases.
 use crate::{trial, written};
+use lines::number;
 use record::Record;
 use script::calls::{head_and_calls, played};
 use script::texts::digits;
@@ -9,15 +10,14 @@ use std::io;
 fn done(rt: &impl Print, log: &mut Record, asked: &[u8], calls: &[u8]) -> io::Result<()> {
     let last = match asked {
         [b't', spelling @ ..] => return trial::tried(rt, spelling),
-        [b'r', spelling @ ..] => trial::read(*log, spelling),
-        _ => played(*log, calls),
+        [b'r', spelling @ ..] => trial::read(log, spelling),
+        _ => played(log, calls),
     };
-    *log = last.log;
     match asked {
-        [b'r' | b'c', ..] => trial::kept(rt, last),
-        [b'w', ..] => written::shown(rt, last.log),
-        [_, size @ ..] => written::into(rt, last.log, digits(size) as usize),
-        [] => written::into(rt, last.log, 0),
+        [b'r' | b'c', ..] => trial::kept(rt, number(&last), log),
+        [b'w', ..] => written::shown(rt, log),
+        [_, size @ ..] => written::into(rt, log, digits(size) as usize),
+        [] => written::into(rt, log, 0),
     }
 }
 

@@ -1,5 +1,5 @@
 // A record's file, written.
-use lines::{Centre, first, lent, sum, unwritten};
+use lines::{Centre, first, lent, number, sum, unwritten};
 use record::Record;
 use std::io;
 
@@ -9,22 +9,26 @@ const ROOM: usize = 4080;
 const BEHIND: usize = 16;
 
 // The centre of gravity, and the file's number, length and bytes in digits of sixteen.
-pub fn shown(rt: &impl Print, log: Record) -> io::Result<()> {
+pub fn shown(rt: &impl Print, log: &Record) -> io::Result<()> {
     let mut out = [0u8; file::LONGEST];
-    let w = file::write(log, &mut out);
+    let answer = file::write(log, &mut out);
     let centre = Centre(log.centre_of_gravity());
-    print!(rt; " {centre} {} {} ", w.number, w.length)?;
-    for x in first(&out, w.length) {
+    let refused = number(&answer);
+    let length = answer.unwrap_or(0);
+    print!(rt; " {centre} {refused} {length} ")?;
+    for x in first(&out, length) {
         print!(rt; "{x:02x}")?;
     }
     Ok(())
 }
 
 // Writing into n bytes of AA: number and length, the sum of the bytes, and how many behind them stayed.
-pub fn into(rt: &impl Print, log: Record, n: usize) -> io::Result<()> {
+pub fn into(rt: &impl Print, log: &Record, n: usize) -> io::Result<()> {
     let mut out = [0xAAu8; ROOM + BEHIND];
-    let w = file::write(log, lent(&mut out, n));
-    let written = sum(first(&out, w.length));
-    let left = unwritten(out.get(w.length..n.saturating_add(BEHIND)).unwrap_or(&out));
-    print!(rt; " {} {} {written} {left}", w.number, w.length)
+    let answer = file::write(log, lent(&mut out, n));
+    let refused = number(&answer);
+    let length = answer.unwrap_or(0);
+    let written = sum(first(&out, length));
+    let left = unwritten(out.get(length..n.saturating_add(BEHIND)).unwrap_or(&out));
+    print!(rt; " {refused} {length} {written} {left}")
 }

@@ -1,39 +1,57 @@
--- What the calls answer that change nothing, each definition computed on what settles it. Assumes nothing.
-use mathlib.Core.Path.{◌≡◌}
+-- What the calls answer that change nothing, each definition computed on what the buffer holds. Assumes nothing.
+use mathlib.Core.Path.{◌≡◌, refl}
 use mathlib.Core.List.{List}
 use mathlib.Core.Option.{Option, none, some}
+use Rattle.std.specs.Prelude.{Result, Err, Some, None}
+use Rattle.std.specs.Prelude.{Option as RustOption}
+use Rattle.std.specs.Option.{ok_or}
 use Prim.Native.Nat.{ℕ}
-use lib.IntN.{pos}
 use Rattle.paper.specs.declared.Entry.{Entry}
+use Rattle.paper.specs.declared.CentreOfGravity.{CentreOfGravity}
 use Rattle.paper.specs.declared.Placard.{Placard}
+use Rattle.paper.specs.declared.Refusal.{Refusal}
+use Rattle.paper.specs.declared.Refusal.TheVariants as refusal
+use Rattle.paper.specs.Numbers.{number_of}
 use Rattle.paper.specs.Record.{is_none}
 use Rattle.paper.specs.Refusals.{first_number, reading_number}
-use Rattle.paper.specs.Answers.{centre_refused, centre_answer, placard_refused, placard_answer}
-use Rattle.front.specs.Front.{held_in, check_number, centre_for, placard_for}
+use Rattle.paper.specs.Answers.{centre_answer, placard_answer}
+use Rattle.stored.specs.declared.Contents.{Contents}
+use Rattle.stored.specs.Found.{Finds}
+use Rattle.front.specs.Front.{held_in, Holds, check_number, centre_for, placard_for}
+
+-- what is found, or 12 where it is nothing
+pub told : (o : Option (List Entry)) (x : RustOption Contents) (r : Result Contents Refusal) → Finds o x → r ≡ ok_or x refusal.NoFile → Holds o r
+told o None r f e = rw e (f, refl)
+told o (Some c) r f e = rw e f
+
+-- nothing is held, and the refusal is 12's
+abbrev Bare : Option (List Entry) → Refusal → Type 0
+Bare o r = (o ≡ none) × (r ≡ refusal.NoFile)
 
 -- whether there is one
 
 module _ (s : List ℕ) where
-  pub no_file : held_in s ≡ none → 12 ≡ check_number s
+  pub no_file : (n : ℕ) (r : Refusal) → n ≡ number_of r → Bare (held_in s) r → n ≡ check_number s
   unfolding held_in check_number reading_number first_number is_none
-  no_file h = rw h
+  no_file n r e h = rw (e, h.1, h.0)
 
   pub a_file : (es : List Entry) → held_in s ≡ some es → 0 ≡ check_number s
   unfolding held_in check_number reading_number first_number is_none
   a_file es h = rw h
 
-pub centre_twelve : (o : Option (List Entry)) → o ≡ none → record { number = 12; total = 0; moment = pos 0; centre = pos 0 } ≡ centre_for o
-unfolding centre_for centre_refused
-centre_twelve o e = rw e
+module _ (o : Option (List Entry)) where
+  pub centre_twelve : (a : Result CentreOfGravity Refusal) (r : Refusal) → a ≡ Err r → Bare o r → a ≡ centre_for o
+  unfolding centre_for
+  centre_twelve a r e h = rw (e, h.1, h.0)
 
-pub centre_held : (o : Option (List Entry)) (es : List Entry) → o ≡ some es → centre_answer es ≡ centre_for o
-unfolding centre_for
-centre_held o es e = rw e
+  pub centre_held : (es : List Entry) → o ≡ some es → centre_answer es ≡ centre_for o
+  unfolding centre_for
+  centre_held es e = rw e
 
-pub placard_twelve : (o : Option (List Entry)) (out : List ℕ) → o ≡ none → (record { number = 12; bytes = 0; rows = 0; blank = 0 }, out) ≡ placard_for o out
-unfolding placard_for placard_refused
-placard_twelve o out e = rw e
+  pub placard_twelve : (out : List ℕ) (a : Result Placard Refusal) (r : Refusal) → a ≡ Err r → Bare o r → (a, out) ≡ placard_for o out
+  unfolding placard_for
+  placard_twelve out a r e h = rw (e, h.1, h.0)
 
-pub placard_held : (o : Option (List Entry)) (es : List Entry) (out last : List ℕ) (a : Placard) → o ≡ some es → (a ≡ (placard_answer es out).0) × (last ≡ (placard_answer es out).1) → (a, last) ≡ placard_for o out
-unfolding placard_for
-placard_held o es out last a e p = rw (e, p.0, p.1)
+  pub placard_held : (out : List ℕ) (es : List Entry) → o ≡ some es → placard_answer es out ≡ placard_for o out
+  unfolding placard_for
+  placard_held out es e = rw e

@@ -2,6 +2,7 @@
 use mathlib.Core.Path.{◌≡◌, refl, sym, ap, ◌∙◌}
 use mathlib.Core.List.{List, [], ◌∷◌, ◌++◌}
 use mathlib.Core.Option.{none, some}
+use Rattle.std.specs.Prelude.{Result}
 use Prim.Native.Nat.{ℕ, ◌+◌, ◌-◌, ◌≤◌, ◌<◌}
 use native.Mathlib.Omega.{arith}
 use lib.ListN.{length, take, drop, set}
@@ -10,7 +11,9 @@ use borrow.Author.Tests.{eq-eqb, ne_eqb}
 use Rattle.laws.specs.Lists.{length_more}
 use Rattle.laws.specs.Written.{written}
 use Rattle.paper.specs.declared.Entry.{Entry}
-use Rattle.paper.specs.declared.Written.{Written}
+use Rattle.paper.specs.declared.Refusal.{Refusal}
+use Rattle.paper.specs.declared.Refusal.TheVariants as refusal
+use Rattle.paper.specs.Numbers.{number_of, number_in}
 use Rattle.paper.specs.Rows.{joined}
 use Rattle.paper.specs.File.{bytes_of, entry_bytes, body_as, file_as, version, file_bytes}
 use Rattle.paper.specs.Record.{is_none}
@@ -31,8 +34,8 @@ use Rattle.lent.proofs.Changed.{file_more, put_again, entry_put, entry_left}
 -- ---- a file at the front
 
 -- number and buffer of what writing answers
-abbrev numbered : Written × List ℕ → ℕ × List ℕ
-numbered p = (p.0.number, p.1)
+abbrev numbered : Result ℕ Refusal × List ℕ → ℕ × List ℕ
+numbered p = (number_in p.0, p.1)
 
 pub file_short : (es : List Entry) (s : List ℕ) → length s < length (file_bytes es) → lent_file es s ≡ (11, s)
 unfolding lent_file
@@ -69,13 +72,13 @@ module _ (s : List ℕ) (v : ℕ) (es : List Entry) (e : Entry) (end : ℕ) (h :
   pub entry_short : length s - end < length (entry_bytes e) → (11, s) ≡ lent_file (es ++ e ∷ []) s
   entry_short k = sym (file_short (es ++ e ∷ []) s (omega (arith, ends, file_more es e)))
 
-  pub entry_added : (t last : List ℕ) (behind count : ℕ) → end + length (entry_bytes e) ≤ length s → count ≡ length es → behind ≡ end + length (entry_bytes e) → t ≡ written s end (entry_bytes e) → last ≡ written t 0 (header_of (behind - 4) (count + 1)) → (0, last) ≡ lent_file (es ++ e ∷ []) s
+  pub entry_added : (t last : List ℕ) (behind count : ℕ) → end + length (entry_bytes e) ≤ length s → count ≡ length es + 1 → behind ≡ end + length (entry_bytes e) → t ≡ written s end (entry_bytes e) → last ≡ written t 0 (header_of (behind - 4) count) → (0, last) ≡ lent_file (es ++ e ∷ []) s
   entry_added t last behind count k c b m l =
       let fs = es ++ e ∷ [] in
       let put = m ∙ ap (λ (j : ℕ). written s j (entry_bytes e)) ends in
       let size : behind - 4 ≡ length (file_bytes fs) - 4 = omega (arith, ends, file_more es e) in
-      let many : count + 1 ≡ length fs = omega (arith, length_more es e) in
-      ap (λ (xs : List ℕ). (0, xs)) (put_again fs s t last (behind - 4) (count + 1) size many (ap (drop 6) put ∙ entry_put s v es there e) l)
+      let many : count ≡ length fs = omega (arith, length_more es e) in
+      ap (λ (xs : List ℕ). (0, xs)) (put_again fs s t last (behind - 4) count size many (ap (drop 6) put ∙ entry_put s v es there e) l)
       ∙ sym (file_put fs s (omega (arith, ends, file_more es e)))
 
 -- ---- a call
@@ -89,9 +92,9 @@ unfolding lent_by
 by_accepted es x s h = rw (eq-eqb (call_number es x) 0 h)
 
 module _ (x : Call) (s : List ℕ) where
-  pub none_held : held_in s ≡ none → (12, s) ≡ lent_call x s
+  pub none_held : (n : ℕ) (r : Refusal) → n ≡ number_of r → (held_in s ≡ none) × (r ≡ refusal.NoFile) → (n, s) ≡ lent_call x s
   unfolding lent_call lent_by
-  none_held h = sym (ap (λ o. lent_by o x s) h)
+  none_held n r e h = rw (e, h.1, h.0)
 
   module _ (es : List Entry) (h : held_in s ≡ some es) where
     pub refused_held : (n : ℕ) → n ≡ call_number es x → 0 < n → (n, s) ≡ lent_call x s
@@ -138,9 +141,9 @@ copied xs s t v es f l =
     ap (λ (ys : List ℕ). set ys 4 version) whole ∙ renewed v es (drop n s)
 
 module _ (xs s : List ℕ) where
-  pub read_none : file_of xs ≡ none → (12, s) ≡ lent_read xs s
+  pub read_none : (n : ℕ) → n ≡ 12 → file_of xs ≡ none → (n, s) ≡ lent_read xs s
   unfolding lent_read call_number reading_number first_number is_none
-  read_none h = sym (by_refused [] (read xs) s (rw h (omega arith)) ∙ rw h)
+  read_none n e h = rw e (sym (by_refused [] (read xs) s (rw h (omega arith)) ∙ rw h))
 
   read_some : (es : List Entry) → file_of xs ≡ some es → lent_read xs s ≡ lent_file es s
   unfolding lent_read call_number reading_number first_number is_none accepted_call

@@ -4,6 +4,7 @@
 use Rattle.std.specs.Prelude.{cond, List, [], ℕ, eqb}
 use Rattle.std.proofs.Math.Option.{Option, none, some}
 use Rattle.paper.specs.declared.Entry.{Entry}
+use Rattle.paper.specs.Numbers as numbers
 use Rattle.paper.specs.Refusals.{writing_number}
 use Rattle.paper.specs.Answers.{written_answer}
 use Rattle.paper.specs.Journal.{Call, read, call_number, accepted_call, journal_by, numbers_by}
@@ -11,7 +12,7 @@ use Rattle.front.specs.Front.{held_in}
 
 -- the file of a list at the front of a buffer, 11 where the buffer is too short for it: the number, and the buffer
 unfoldable pub lent_file : List Entry → List ℕ → ℕ × List ℕ
-lent_file es buffer = ((written_answer es buffer).0.number, (written_answer es buffer).1)
+lent_file es buffer = (numbers.number_in (written_answer es buffer).0, (written_answer es buffer).1)
 
 -- a call where o is the list that the buffer holds
 unfoldable pub lent_by : Option (List Entry) → Call → List ℕ → ℕ × List ℕ

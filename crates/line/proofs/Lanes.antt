@@ -1,11 +1,13 @@
 -- Numbers side by side in one: what is done to the one is done to each, where no lane spills into the next. A law about the
 -- lowest lane, x, and all that is above it, y, goes up from lane to lane. Assumes nothing.
-use mathlib.Core.Path.{◌≡◌, refl, ap}
+use mathlib.Core.Path.{◌≡◌, refl, ap, ◌∙◌}
 use mathlib.Core.List.{List, [], ◌∷◌, map}
 use Prim.Native.Nat.{ℕ, ◌+◌, ◌*◌, ◌-◌, ◌/◌, ◌%◌, ◌^◌, ◌≤◌, ◌<◌}
 use native.Mathlib.Nat.{mul-zero, zero-mul, pow-zero, pow-suc}
 use native.Mathlib.Omega.{arith}
 use lib.ListN.{length}
+use lib.Bits.{bit_and}
+use Rattle.std.proofs.lemmas.Nat.{and_block, and_mask}
 use Rattle.laws.specs.Lists.{Each}
 use Rattle.line.specs.Word.{packed, lanes, Packed, quotients, apart}
 
@@ -24,6 +26,31 @@ each_lane {base} l (x ∷ xs) e =
 -- the same of what is packed
 pub each_part : {base keep most k x : ℕ} {f g : ℕ → ℕ} → Lanewise base keep most f g → (q : ℕ) → q ≡ packed base (lanes base keep k (f x)) → (l : Packed base k most x) → q ≡ packed base (map g l.parts)
 each_part {base} w q e l = rw (e, l.whole, ← l.count) (ap (packed base) (each_lane w l.parts l.small))
+
+-- ---- the lowest k bits of each lane of w, by a mask
+
+-- of the lowest lane, and of all that is above it
+mask_step : (w k t m s : ℕ) → t ≡ t / 2 ^ w * 2 ^ w + t % 2 ^ w → t % 2 ^ w < 2 ^ w → s < 2 ^ w → s ≡ 2 ^ k - 1 → t % 2 ^ w % 2 ^ k ≡ t % 2 ^ k → bit_and t (m * 2 ^ w + s) ≡ bit_and (t / 2 ^ w) m * 2 ^ w + t % 2 ^ k
+mask_step w k t m s whole l h e f =
+    ap (λ (x : ℕ). bit_and x (m * 2 ^ w + s)) whole
+    ∙ and_block w (t / 2 ^ w) m (t % 2 ^ w) s l h
+    ∙ ap (λ (x : ℕ). bit_and (t / 2 ^ w) m * 2 ^ w + x) (rw e (and_mask (t % 2 ^ w) k) ∙ f)
+
+pub mask_two : (t : ℕ) → bit_and t 545460846719 ≡ packed (2 ^ 32) (lanes (2 ^ 32) 128 2 t)
+mask_two t =
+    omega (arith, mask_step 32 7 t 127 127 (omega arith) (omega arith) (omega arith) refl (omega arith), and_mask (t / 2 ^ 32) 7)
+
+pub mask_four : (t : ℕ) → bit_and t 4222189076152335 ≡ packed (2 ^ 16) (lanes (2 ^ 16) 16 4 t)
+mask_four t =
+    let u = t / 2 ^ 16 in
+    let v = u / 2 ^ 16 in
+    omega (
+      arith,
+      mask_step 16 4 t 64425492495 15 (omega arith) (omega arith) (omega arith) refl (omega arith),
+      mask_step 16 4 u 983055 15 (omega arith) (omega arith) (omega arith) refl (omega arith),
+      mask_step 16 4 v 15 15 (omega arith) (omega arith) (omega arith) refl (omega arith),
+      and_mask (v / 2 ^ 16) 4,
+    )
 
 pub by_hundred : Lanewise (2 ^ 32) 128 10000 (λ (u : ℕ). u * 5243 / 524288) (λ (x : ℕ). x / 100)
 by_hundred = record {

@@ -15,13 +15,14 @@ const HYPHENS: u64 = 3_255_307_777_713_450_285;
 // `0000.000` as a word.
 const NOUGHT: u64 = 3_472_328_287_637_745_712;
 
-// Two numbers below 10000, each in a half of u, by 100. Times 5243 / 2^19 is near enough, and divides both at once.
+// Two numbers below 10000, each in a half of u, by 100. Times 5243 / 2^19 is near enough, and divides both at once; the mask keeps
+// each quotient.
 fn by_hundred(u: u64) -> u64
     requires { u < 2 ^ 51 }
     ensures { (l : Packed (2 ^ 32) 2 10000 u) → result ≡ packed (2 ^ 32) (quotients 100 l.parts) }
 {
     let t = u * 5243 / 524_288;
-    t % 128 + (t / 4_294_967_296 % 128) * 4_294_967_296
+    t & 0x7F_0000_007F
 }
 
 // Hundreds and what is left of each of the two, each in a quarter.
@@ -33,16 +34,13 @@ fn quarters(u: u64) -> u64
     h + (u - 100 * h) * 65_536
 }
 
-// Four numbers below 100, each in a quarter of z, by 10. Times 103 / 2^10 is near enough.
+// Four numbers below 100, each in a quarter of z, by 10. Times 103 / 2^10 is near enough; the mask keeps each quotient.
 fn by_ten(z: u64) -> u64
     requires { z < 2 ^ 57 }
     ensures { (l : Packed (2 ^ 16) 4 100 z) → result ≡ packed (2 ^ 16) (quotients 10 l.parts) }
 {
     let t = z * 103 / 1024;
-    t % 16
-        + (t / 65_536 % 16) * 65_536
-        + (t / 4_294_967_296 % 16) * 4_294_967_296
-        + (t / 281_474_976_710_656 % 16) * 281_474_976_710_656
+    t & 0xF_000F_000F_000F
 }
 
 // Tens and ones of each of the four, each in a byte; the noughts of a field can be added.

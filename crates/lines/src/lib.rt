@@ -2,30 +2,42 @@
 
 // What the programs print, and what they take and how they read it.
 ghost use Rattle.std.specs.Prelude.{◌≡◌, ◌≤◌, length, take, IfOk};
+ghost use Rattle.paper.specs.Numbers.{number_in};
 
-use paper::CentreOfGravity;
+use paper::{CentreOfGravity, Refusal};
 use std::io::Read;
 use std::{fmt, io};
 
-// What the centre-of-gravity call answers, as it is printed: number, total, moment and centre.
+// What the centre-of-gravity call answers, as it is printed: number, total, moment and centre, noughts behind a refusal.
 #[derive(Clone, Copy)]
-pub struct Centre(pub CentreOfGravity);
+pub struct Centre(pub Result<CentreOfGravity, Refusal>);
 
 impl fmt::Display for Centre {
     fn fmt<W: fmt::Write>(&self, f: &mut fmt::Formatter<W>) -> fmt::Result {
-        let CentreOfGravity {
-            number,
-            total,
-            moment,
-            centre,
-        } = self.0;
-        write!(f, "{number} {total} {moment} {centre}")
+        match self.0 {
+            Ok(CentreOfGravity {
+                total,
+                moment,
+                centre,
+            }) => write!(f, "0 {total} {moment} {centre}"),
+            Err(refusal) => write!(f, "{} 0 0 0", u64::from(refusal)),
+        }
+    }
+}
+
+// The number of an answer, 0 where the call is accepted.
+pub fn number<A>(answer: &Result<A, Refusal>) -> u64
+    ensures { result ≡ number_in answer.now }
+{
+    match answer {
+        Ok(_) => 0,
+        Err(refusal) => u64::from(*refusal),
     }
 }
 
 // That something is refused, and by which number.
-pub fn refused(to: &impl Print, number: u64) -> io::Result<()> {
-    println!(to; "refused {number}")
+pub fn refused(to: &impl Print, refusal: Refusal) -> io::Result<()> {
+    println!(to; "refused {}", u64::from(refusal))
 }
 
 // Reads until the buffer is full or there is no more. The answer is how many bytes were read.

@@ -2,17 +2,16 @@
 
 // Reads a logbook on standard input and writes its record's file on standard output. Where a line is refused or not
 // understood it writes no file, and says so in a line on standard error.
-use book::{Ending, Reading};
 use record::Record;
 use std::io;
 
 // The longest logbook.
 const TEXT: usize = 65536;
 
-fn write(rt: &impl Print, r: Record) -> io::Result<()> {
+fn write(rt: &impl Print, r: &Record) -> io::Result<()> {
     let mut out = [0u8; file::LONGEST];
-    let w = file::write(r, &mut out);
-    rt.write_all(lines::first(&out, w.length))
+    let length = file::write(r, &mut out).unwrap_or(0);
+    rt.write_all(lines::first(&out, length))
 }
 
 // The buffer has one byte more than a logbook may have, which tells a longer input.
@@ -22,9 +21,8 @@ fn main(rt: HostRuntime) -> io::Result<()> {
     if TEXT < n {
         return notice::too_long(&rt.stderr(), TEXT);
     }
-    let Reading { log, ending } = book::read(&input[..n]);
-    match ending {
-        Ending::Whole => write(&rt, log),
-        _ => notice::ending(&rt.stderr(), ending),
+    match book::read(&input[..n]) {
+        Ok(log) => write(&rt, &log),
+        Err(failure) => println!(rt.stderr(); "{failure}"),
     }
 }

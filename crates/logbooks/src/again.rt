@@ -2,13 +2,21 @@
 use lines::first;
 use record::Record;
 
-// Whether a file is the same again once its listing, a logbook, is read to a record.
-pub fn same_again(s: &[u8]) -> bool {
-    let k = file::read(Record::fresh(), s);
+// The record of a file's listing, which is a logbook.
+fn through_text(s: &[u8]) -> Option<Record> {
+    let mut log = Record::fresh();
+    file::read(&mut log, s).ok()?;
     let mut text = [0u8; listing::LONGEST];
-    let shown = listing::show(k.log, &mut text);
-    let b = book::read(first(&text, shown.length));
+    let length = listing::show(&log, &mut text).ok()?;
+    book::read(first(&text, length)).ok()
+}
+
+// Whether the file of that record is the same again.
+pub fn same_again(s: &[u8]) -> bool {
+    let Some(log) = through_text(s) else {
+        return false;
+    };
     let mut out = [0u8; file::LONGEST];
-    let w = file::write(b.log, &mut out);
-    first(&out, w.length) == s
+    let length = file::write(&log, &mut out).unwrap_or(0);
+    first(&out, length) == s
 }

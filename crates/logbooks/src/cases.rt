@@ -1,7 +1,6 @@
 // The cases on standard input, a tilde behind each. A line for each: how it ends; or how many bytes its file and its listing
 // have, with their sums, and `again` where the file comes back through its text. The listing follows where it is short.
 use crate::again::same_again;
-use book::{Ending, Reading};
 use lines::{each_block, first, sum};
 use record::Record;
 use std::io;
@@ -14,10 +13,10 @@ const BLOCKS: usize = 28;
 // The longest listing that is printed.
 const SHORT: usize = 160;
 
-fn listed(rt: &impl Print, log: Record) -> io::Result<()> {
+fn listed(rt: &impl Print, log: &Record) -> io::Result<()> {
     let mut out = [0u8; listing::LONGEST];
-    let w = listing::show(log, &mut out);
-    let text = first(&out, w.length);
+    let length = listing::show(log, &mut out).unwrap_or(0);
+    let text = first(&out, length);
     println!(rt; " text {} {}", text.len(), sum(text))?;
     if text.len() <= SHORT {
         rt.write_all(text)?;
@@ -25,10 +24,10 @@ fn listed(rt: &impl Print, log: Record) -> io::Result<()> {
     Ok(())
 }
 
-fn whole(rt: &impl Print, log: Record) -> io::Result<()> {
+fn whole(rt: &impl Print, log: &Record) -> io::Result<()> {
     let mut out = [0u8; file::LONGEST];
-    let w = file::write(log, &mut out);
-    let s = first(&out, w.length);
+    let length = file::write(log, &mut out).unwrap_or(0);
+    let s = first(&out, length);
     print!(rt; "file {} {}", s.len(), sum(s))?;
     if same_again(s) {
         print!(rt; " again")?;
@@ -37,10 +36,9 @@ fn whole(rt: &impl Print, log: Record) -> io::Result<()> {
 }
 
 fn case(rt: &impl Print, text: &[u8]) -> io::Result<()> {
-    let Reading { log, ending } = book::read(text);
-    match ending {
-        Ending::Whole => whole(rt, log),
-        _ => notice::ending(rt, ending),
+    match book::read(text) {
+        Ok(log) => whole(rt, &log),
+        Err(failure) => println!(rt; "{failure}"),
     }
 }
 

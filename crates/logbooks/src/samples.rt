@@ -1,6 +1,5 @@
 // The samples: each logbook has the placard that is stored beside it, and its file comes back through its text.
 use crate::again::same_again;
-use book::Reading;
 use lines::first;
 use record::Record;
 use std::fs::File;
@@ -35,9 +34,12 @@ fn read<'a>(rt: &(impl Files + Print), path: &str, out: &'a mut [u8]) -> io::Res
     Ok(&out[..n])
 }
 
-fn printed(rt: &(impl Files + Print), log: Record, path: &str) -> io::Result<()> {
+fn printed(rt: &(impl Files + Print), log: &Record, path: &str) -> io::Result<()> {
     let mut out = [0u8; plate::LONGEST];
-    let p = plate::placard(log, &mut out);
+    let p = match plate::placard(log, &mut out) {
+        Ok(p) => p,
+        Err(refusal) => return lines::refused(rt, refusal),
+    };
     let mut buffer = [0u8; plate::LONGEST];
     let stored = read(rt, path, &mut buffer)?;
     let same = if first(&out, p.bytes) == stored {
@@ -51,24 +53,27 @@ fn printed(rt: &(impl Files + Print), log: Record, path: &str) -> io::Result<()>
     )
 }
 
-fn filed(rt: &impl Print, log: Record) -> io::Result<()> {
+fn filed(rt: &impl Print, log: &Record) -> io::Result<()> {
     let mut out = [0u8; file::LONGEST];
-    let w = file::write(log, &mut out);
-    let again = if same_again(first(&out, w.length)) {
+    let length = file::write(log, &mut out).unwrap_or(0);
+    let again = if same_again(first(&out, length)) {
         " again"
     } else {
         ""
     };
-    println!(rt; ", file {}{again}", w.length)
+    println!(rt; ", file {length}{again}")
 }
 
 fn sample(rt: &(impl Files + Print), logbook: &str, placard: &str) -> io::Result<()> {
     print!(rt; "{logbook}:")?;
     let mut input = [0u8; TEXT];
-    let Reading { log, ending } = book::read(read(rt, logbook, &mut input)?);
-    notice::ending(rt, ending)?;
-    printed(rt, log, placard)?;
-    filed(rt, log)
+    match book::read(read(rt, logbook, &mut input)?) {
+        Ok(log) => {
+            printed(rt, &log, placard)?;
+            filed(rt, &log)
+        }
+        Err(failure) => println!(rt; "{failure}"),
+    }
 }
 
 pub fn run(rt: &(impl Files + Print)) -> io::Result<()> {

@@ -1,5 +1,5 @@
 // A line of output for each line of cases, and the placard.
-use lines::{first, lent, sum, unwritten};
+use lines::{first, lent, number, sum, unwritten};
 use paper::Placard;
 use record::Record;
 use script::calls::{head_and_calls, played};
@@ -16,6 +16,13 @@ const ROOM: usize = 9232;
 
 const BEHIND: usize = 16;
 
+// What is printed behind a refusal.
+const NONE: Placard = Placard {
+    bytes: 0,
+    rows: 0,
+    blank: 0,
+};
+
 // The placard, or where it is longer its first line, its last and the sum of its bytes.
 fn printed(rt: &impl Print, placard: &[u8]) -> io::Result<()> {
     if placard.len() <= SHORT {
@@ -27,17 +34,13 @@ fn printed(rt: &impl Print, placard: &[u8]) -> io::Result<()> {
 }
 
 // The rest of a line of output behind its label, and the placard into n bytes.
-fn answered(rt: &impl Print, number: u64, log: Record, n: usize) -> io::Result<()> {
+fn answered(rt: &impl Print, last: u64, log: &Record, n: usize) -> io::Result<()> {
     let mut out = [0xAAu8; ROOM + BEHIND];
     let answer = plate::placard(log, lent(&mut out, n));
-    let Placard {
-        number: refused,
-        bytes,
-        rows,
-        blank,
-    } = answer;
+    let refused = number(&answer);
+    let Placard { bytes, rows, blank } = answer.unwrap_or(NONE);
     let left = unwritten(out.get(bytes..n.saturating_add(BEHIND)).unwrap_or(&out));
-    println!(rt; ": {number}; {refused} {bytes} {rows} {blank}; {left}")?;
+    println!(rt; ": {last}; {refused} {bytes} {rows} {blank}; {left}")?;
     printed(rt, first(&out, bytes))
 }
 
@@ -47,8 +50,7 @@ pub fn tried(rt: &impl Print, log: &mut Record, line: &[u8]) -> io::Result<()> {
         return Ok(());
     }
     let (head, calls) = head_and_calls(line);
-    let last = played(*log, calls);
-    *log = last.log;
+    let last = played(log, calls);
     rt.write_all(split_once(head, b' ').map_or(line, |(_, label)| label))?;
-    answered(rt, last.number, last.log, digits(line) as usize)
+    answered(rt, number(&last), log, digits(line) as usize)
 }

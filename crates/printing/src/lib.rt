@@ -3,19 +3,15 @@
 // What the program `placard` does: a record's file on standard input, its placard on standard output, or `refused `, the
 // number and a line feed. The programs that are run on the longest file and on the longest placard do the same.
 use lines::first;
+use paper::Refusal;
 use record::Record;
 use std::io;
 
-// The placard of a file, at the front of a buffer, or the number that it is refused by.
-fn placard<'a>(s: &[u8], out: &'a mut [u8]) -> Result<&'a [u8], u64> {
-    let k = file::read(Record::fresh(), s);
-    if k.number != 0 {
-        return Err(k.number);
-    }
-    let p = plate::placard(k.log, out);
-    if p.number != 0 {
-        return Err(p.number);
-    }
+// The placard of a file, at the front of a buffer, or why it is refused.
+fn placard<'a>(s: &[u8], out: &'a mut [u8]) -> Result<&'a [u8], Refusal> {
+    let mut log = Record::fresh();
+    file::read(&mut log, s)?;
+    let p = plate::placard(&log, out)?;
     Ok(first(out, p.bytes))
 }
 
@@ -26,6 +22,6 @@ pub fn run(rt: &(impl Input + Print)) -> io::Result<()> {
     let mut out = [0u8; plate::LONGEST];
     match placard(&input[..n], &mut out) {
         Ok(text) => rt.write_all(text),
-        Err(number) => lines::refused(rt, number),
+        Err(refusal) => lines::refused(rt, refusal),
     }
 }

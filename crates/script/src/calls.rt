@@ -2,7 +2,8 @@
 use crate::reread::{G, first_version, read_again};
 use crate::sample::Fields;
 use crate::texts::split_once;
-use record::{Kept, Record};
+use paper::Refusal;
+use record::Record;
 use std::io;
 
 // The fields of an ordinary entry of each kind.
@@ -26,40 +27,43 @@ const CHANGE: &[u8] = b"c1000 a5000 f0";
 
 const SEAT: &[u8] = b"l-50000 h-45000";
 
-// What a call that is accepted leaves.
-fn accepted(log: Record) -> Kept {
-    Kept { number: 0, log }
+// A fresh record in the place of another.
+fn afresh(log: &mut Record) -> Result<(), Refusal> {
+    *log = Record::fresh();
+    Ok(())
 }
 
 // A call: its letter, and the fields that stand behind it.
-fn called(r: Record, call: &[u8]) -> Kept {
+fn called(log: &mut Record, call: &[u8]) -> Result<(), Refusal> {
     let [letter, other @ ..] = call else {
-        return accepted(Record::fresh());
+        return afresh(log);
     };
     let by = |ordinary| Fields { ordinary, other };
     match *letter {
-        b'w' => r.weigh(by(WEIGHING).weighing()),
-        b'v' => r.weigh(by(HANGING).weighing()),
-        b'u' => r.weigh(by(LIGHT).weighing()),
-        b'p' => r.weigh_paired(by(PAIRED).paired()),
-        b's' => r.install(by(SHEET).sheet()),
-        b'l' => r.install(by(LAX_SHEET).sheet()),
-        b'c' => r.change(by(CHANGE).change()),
-        b'a' => r.adjust_seat(by(SEAT).seat()),
-        b'r' => read_again(r),
-        b'g' => file::read(r, &G),
-        b'x' => file::read(r, &G[..88]),
-        b'o' => file::read(r, &first_version()),
-        b'-' => r.undo(),
-        _ => accepted(Record::fresh()),
+        b'w' => log.weigh(by(WEIGHING).weighing()),
+        b'v' => log.weigh(by(HANGING).weighing()),
+        b'u' => log.weigh(by(LIGHT).weighing()),
+        b'p' => log.weigh_paired(by(PAIRED).paired()),
+        b's' => log.install(by(SHEET).sheet()),
+        b'l' => log.install(by(LAX_SHEET).sheet()),
+        b'c' => log.change(by(CHANGE).change()),
+        b'a' => log.adjust_seat(by(SEAT).seat()),
+        b'r' => read_again(log),
+        b'g' => file::read(log, &G),
+        b'x' => file::read(log, &G[..88]),
+        b'o' => file::read(log, &first_version()),
+        b'-' => log.undo(),
+        _ => afresh(log),
     }
 }
 
 // Calls one after the other, a comma or a line feed behind each. The answer is the last one's.
-pub fn played(r: Record, calls: &[u8]) -> Kept {
-    calls
-        .split_inclusive(|x| *x == b',' || *x == b'\n')
-        .fold(accepted(r), |k, call| called(k.log, call))
+pub fn played(log: &mut Record, calls: &[u8]) -> Result<(), Refusal> {
+    let mut last = Ok(());
+    for call in calls.split_inclusive(|x| *x == b',' || *x == b'\n') {
+        last = called(log, call);
+    }
+    last
 }
 
 // What stands before the colon of a line, and the calls behind the colon and a space. A line with no colon is both.

@@ -1,6 +1,7 @@
 // Files that are read.
 use lines::first;
-use record::{Kept, Record};
+use paper::Refusal;
+use record::Record;
 
 // The file of case G.
 pub const G: [u8; 89] = *b"\x00\x00\x00\x55\x02\x02\
@@ -10,10 +11,11 @@ pub const G: [u8; 89] = *b"\x00\x00\x00\x55\x02\x02\
     \x00\x00\x00\x00\x00\x00\x00\x00\x00\x00\x00\x01\x00\x00\x75\x30\x00\x01\x86\xA0\x00\x00\xC3\x50";
 
 // The record's own file, read into a fresh record.
-pub fn read_again(r: Record) -> Kept {
+pub fn read_again(log: &mut Record) -> Result<(), Refusal> {
     let mut out = [0u8; file::LONGEST];
-    let w = file::write(r, &mut out);
-    file::read(Record::fresh(), first(&out, w.length))
+    let length = file::write(log, &mut out)?;
+    *log = Record::fresh();
+    file::read(log, first(&out, length))
 }
 
 // G's file in version 1.

@@ -32,12 +32,12 @@ length_in es e =
     ap length (ap joined (map-append entry_bytes es (e ∷ [])) ∙ joined-last (map entry_bytes es) (entry_bytes e))
     ∙ length-append (bytes_in es) (entry_bytes e)
 
--- how many entries the contents count
-pub entries_in : (es : List Entry) (c : Contents) → ContentsOf es c → c.standing.entries ≡ length es
+-- how many entries stand
+pub entries_in : (es : List Entry) (o : Stands) → o ≡ stands_in es → o.entries ≡ length es
 unfolding stands_in
-entries_in es c x = ap (λ (o : Stands). o.entries) x.stands
+entries_in es o h = ap (λ (p : Stands). p.entries) h
 
--- ---- what a judgement's answer says by itself
+-- ---- a judgement: what its answer says by itself
 
 pub refused_then : (r : Result (Unit {0}) Refusal) → None ≡ result_ok r → 0 < number_in r
 refused_then (Ok x) h = cc
@@ -46,6 +46,18 @@ refused_then (Err r) h = positive r
 pub added_then : (r : Result (Unit {0}) Refusal) (x : Unit {0}) → Some x ≡ result_ok r → number_in r ≡ 0
 added_then (Ok y) x h = refl
 added_then (Err r) x h = cc
+
+kept_more : (es : List Entry) (e : Entry) → entry_number es e ≡ 0 → kept_behind es e ≡ es ++ e ∷ []
+unfolding kept_behind
+kept_more es e n = rw (eq-eqb (entry_number es e) 0 n)
+
+-- where it was made of what stands in a list: the number is the entry's there, and what stands once the entry is added
+module _ (es : List Entry) (o p : Stands) (e : Entry) (n : ℕ) (h : o ≡ stands_in es) (j : ◌≡◌ {A = ℕ × Stands} (n, p) (judged o e)) where
+  pub number_there : n ≡ entry_number es e
+  number_there = (judged_at es o p e n h j).0
+
+  pub stands_then : n ≡ 0 → p ≡ stands_in (es ++ e ∷ [])
+  stands_then z = (judged_at es o p e n h j).1 ∙ ap stands_in (kept_more es e (sym number_there ∙ z))
 
 -- i entries of kinds up to k are passed, and what is found so far are their contents
 pub record WalkedTo (s : List ℕ) (k count i : ℕ) (c : Contents) : Type 0 where
@@ -58,28 +70,19 @@ unfolding without_last joined
 begun s k count t h =
     record { entries = []; passed = none_passed s k count; contents = record { stands = h; last = refl; end = refl } }
 
-kept_more : (es : List Entry) (e : Entry) → entry_number es e ≡ 0 → kept_behind es e ≡ es ++ e ∷ []
-unfolding kept_behind
-kept_more es e n = rw (eq-eqb (entry_number es e) 0 n)
-
--- the next entry is judged where the walk stands
-module _ (s : List ℕ) (k count i : ℕ) (c : Contents) (w : WalkedTo s k count i c) (t : Standing) (e : Entry) (n : ℕ) (j : ◌≡◌ {A = ℕ × Stands} (n, plainly t) (judged (plainly c.standing) e)) where
-  pub number_there : n ≡ entry_number w.entries e
-  number_there = (judged_at w.entries (plainly c.standing) (plainly t) e n w.contents.stands j).0
-
-  -- one entry more, which gets no number
-  pub gone_on : are_bytes s ≡ true → i < count → (place : ℕ) → walk_to k s c.end ≡ Some (e, place) → n ≡ 0 → WalkedTo s k count (i + 1) (record { standing = t; last = c.end; end = place })
-  gone_on b h place g z =
-      let es = w.entries in
-      let x = w.contents in
-      let none = sym number_there ∙ z in
-      record {
-        entries = es ++ e ∷ [];
-        passed = one_passed s k count i c.end es w.passed b h e place g none;
-        contents =
-            record {
-              stands = (judged_at es (plainly c.standing) (plainly t) e n x.stands j).1 ∙ ap stands_in (kept_more es e none);
-              last = x.end ∙ ap (λ (l : List Entry). 6 + length (bytes_in l)) (sym (without_more es e));
-              end = place_here s c.end k b e place g ∙ omega (arith, x.end, length_in es e);
-            };
-      }
+-- one entry more, judged where the walk stands, which gets no number
+pub gone_on : (s : List ℕ) (k count i : ℕ) (c : Contents) (w : WalkedTo s k count i c) (t : Standing) (e : Entry) (n : ℕ) → ◌≡◌ {A = ℕ × Stands} (n, plainly t) (judged (plainly c.standing) e) → are_bytes s ≡ true → i < count → (place : ℕ) → walk_to k s c.end ≡ Some (e, place) → n ≡ 0 → WalkedTo s k count (i + 1) (record { standing = t; last = c.end; end = place })
+gone_on s k count i c w t e n j b h place g z =
+    let es = w.entries in
+    let x = w.contents in
+    let none = sym (number_there es _ _ e n x.stands j) ∙ z in
+    record {
+      entries = es ++ e ∷ [];
+      passed = one_passed s k count i c.end es w.passed b h e place g none;
+      contents =
+          record {
+            stands = stands_then es _ _ e n x.stands j z;
+            last = x.end ∙ ap (λ (l : List Entry). 6 + length (bytes_in l)) (sym (without_more es e));
+            end = place_here s c.end k b e place g ∙ omega (arith, x.end, length_in es e);
+          };
+    }

@@ -16,15 +16,14 @@ pub fn number_at(s: &[u8], at: usize, width: usize) -> u32
     ensures { result ≡ number_of (take width (drop at s.now)) }
 {
     let mut n: u32 = 0;
-    let mut i = 0;
-    while i < width {
+    for i in 0..width {
         n = n * 256 + s[at + i] as u32;
-        i += 1;
     }
     n
 }
 
-// The last `width` bytes of a number, from `at` on.
+// The last `width` bytes of a number, from `at` on. It counts down by hand, since each byte is what division leaves of the rest:
+// a reversed range would say its place by what it yielded, which is no plainer.
 pub fn put_number(out: &mut [u8], at: usize, width: usize, n: u64)
     requires { at + width ≤ length out.old }
     ensures { out.new ≡ written out.old at (bytes_of width n) }

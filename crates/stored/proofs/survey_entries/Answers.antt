@@ -25,7 +25,7 @@ returns-in_err-ok c =
     let l = c.loop in
     let w = l.invariant in
     let e = c.in_ok-entry.entry in
-    let n = number_there a.s.now (code_of a.kinds) a.count l.counter _ w c.add.new.self e _ c.add.ensures in
+    let n = number_there w.entries _ _ e _ w.contents.stands c.add.ensures in
     let above = refused_then _ c.in_err-ok.ensures.value in
     let none = refused_entry a.s.now (code_of a.kinds) a.count l.counter l.end w.entries w.passed (bytes_at a.s.now (λ i h. (c.type_inv.s i).fits)) c.loop-test.true e _ (sym c.entry_to.ensures ∙ c.in_ok-entry.was) (omega arith) in
     rw c.from_residual-in_err-ok.ensures none
