@@ -3,15 +3,18 @@
 use mathlib.Core.Path.{◌≡◌, ap, ◌∙◌}
 use mathlib.Core.List.{List, [], ◌++◌, append_assoc, append-nil}
 use mathlib.Core.Option.{Option}
+use Rattle.std.specs.Prelude.{Result, Ok, Err}
 use Prim.Native.Nat.{ℕ, ◌≤◌, ◌<◌}
 use native.Mathlib.Omega.{arith}
 use lib.IntN.{ℤ, pos}
 use lib.ListN.{length, length-append}
-use borrow.Author.Tests.{eq-eqb, ne_eqb, lt-ltb, le-ltb}
+use borrow.Author.Tests.{lt-ltb, le-ltb}
 use Rattle.laws.specs.Written.{written, written_first, written_follows}
 use Rattle.paper.specs.declared.Entry.{Entry}
 use Rattle.paper.specs.declared.CentreOfGravity.{CentreOfGravity}
 use Rattle.paper.specs.declared.Placard.{Placard}
+use Rattle.paper.specs.declared.Refusal.{Refusal}
+use Rattle.paper.specs.Numbers.{number_of, number_in}
 use Rattle.paper.specs.File.{bytes_of, complement, field_bytes, fields_bytes}
 use Rattle.paper.specs.Answers.{over}
 use Rattle.format.specs.Numbers.{length-bytes}
@@ -40,32 +43,35 @@ module _ (answer last : List ℕ) (x y z : ℤ) (a b d : ℕ) (e : a ≡ complem
 
 -- ---- centre of gravity
 
-module _ (c : CentreOfGravity) (answer : List ℕ) where
-  pub centre_refused_lem : (c.number ≡ 0 → ⊥) → (c.number, answer) ≡ centre_into c answer
+module _ (o : Result CentreOfGravity Refusal) (answer : List ℕ) where
+  pub centre_refused : (n : ℕ) (r : Refusal) → n ≡ number_of r → o ≡ Err r → (n, answer) ≡ centre_into o answer
   unfolding centre_into
-  centre_refused_lem h = rw (ne_eqb c.number 0 h)
+  centre_refused n r e h = rw (e, h)
 
-  module _ (n : c.number ≡ 0) where
-    pub centre_short : length answer < 24 → (11, answer) ≡ centre_into c answer
+  module _ (c : CentreOfGravity) (h : o ≡ Ok c) where
+    pub centre_short : length answer < 24 → (11, answer) ≡ centre_into o answer
     unfolding centre_into
-    centre_short h = rw (eq-eqb c.number 0 n, lt-ltb (length answer) 24 h)
+    centre_short k = rw (h, lt-ltb (length answer) 24 k)
 
-    pub centre_given_lem : (last : List ℕ) → 24 ≤ length answer → last ≡ over (answer_bytes (pos c.total) c.moment c.centre) answer → (0, last) ≡ centre_into c answer
+    pub centre_put : (last : List ℕ) → 24 ≤ length answer → last ≡ over (answer_bytes (pos c.total) c.moment c.centre) answer → (0, last) ≡ centre_into o answer
     unfolding centre_into
-    centre_given_lem last h l = rw (eq-eqb c.number 0 n, le-ltb (length answer) 24 h, l)
+    centre_put last k l = rw (h, le-ltb (length answer) 24 k, l)
 
 -- ---- placard
 
+abbrev Given : Type 0
+Given = Result Placard Refusal × List ℕ
+
 module _ (o : Option (List Entry)) (out answer : List ℕ) where
-  pub counts_short : (a : Placard) (none : List ℕ) → length answer < 24 → (a, none) ≡ placard_for o [] → (a.number, out, answer) ≡ placard_into o out answer
+  pub counts_short : (n : ℕ) (a : Result Placard Refusal) (none : List ℕ) → n ≡ number_in a → length answer < 24 → ◌≡◌ {A = Given} (a, none) (placard_for o []) → (n, out, answer) ≡ placard_into o out answer
   unfolding placard_into
-  counts_short a none h e = rw (lt-ltb (length answer) 24 h, ← e)
+  counts_short n a none k h e = rw (k, lt-ltb (length answer) 24 h, ← e)
 
-  module _ (a : Placard) (left : List ℕ) (h : 24 ≤ length answer) (e : (a, left) ≡ placard_for o out) where
-    pub placard_refused_lem : (a.number ≡ 0 → ⊥) → (a.number, left, answer) ≡ placard_into o out answer
+  module _ (left : List ℕ) (h : 24 ≤ length answer) where
+    pub placard_refused : (n : ℕ) (r : Refusal) → n ≡ number_of r → ◌≡◌ {A = Given} (Err r, left) (placard_for o out) → (n, left, answer) ≡ placard_into o out answer
     unfolding placard_into counts_over
-    placard_refused_lem n = rw (le-ltb (length answer) 24 h, ← e, ne_eqb a.number 0 n)
+    placard_refused n r k e = rw (k, le-ltb (length answer) 24 h, ← e)
 
-    pub placard_given_lem : (last : List ℕ) → a.number ≡ 0 → last ≡ over (answer_bytes (pos a.bytes) (pos a.rows) (pos a.blank)) answer → (0, left, last) ≡ placard_into o out answer
+    pub placard_put : (a : Placard) (last : List ℕ) → ◌≡◌ {A = Given} (Ok a, left) (placard_for o out) → last ≡ over (answer_bytes (pos a.bytes) (pos a.rows) (pos a.blank)) answer → (0, left, last) ≡ placard_into o out answer
     unfolding placard_into counts_over
-    placard_given_lem last n l = rw (le-ltb (length answer) 24 h, ← e, eq-eqb a.number 0 n, n, l)
+    placard_put a last e l = rw (le-ltb (length answer) 24 h, ← e, l)

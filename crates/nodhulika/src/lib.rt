@@ -5,37 +5,49 @@
 // nodhulika_c exports them.
 ghost use Rattle.std.specs.Prelude.{◌≡◌, [], ◌++◌, ◌≤◌, length};
 ghost use Rattle.laws.specs.Written.{written};
+ghost use Rattle.paper.specs.Numbers.{number_in};
 ghost use Rattle.paper.specs.File.{bytes_of};
 ghost use Rattle.paper.specs.Journal as journal;
 ghost use Rattle.front.specs.Front.{held_in, check_number, centre_for};
 ghost use Rattle.lent.specs.Lent.{lent_file, lent_call, lent_read};
 ghost use Rattle.nodhulika.specs.Exported.{centre_into, placard_into};
 
-use arguments::{change_of, paired_of, seat_of, sheet_of, weighing_of};
+use paper::{Change, Paired, Refusal, Seat, Sheet, Station, Weighing};
 use words::long_of;
 
 // How many bytes the numbers of an answer take.
 const ANSWER: usize = 24;
 
+// The number of an answer.
+fn number(answer: Result<(), Refusal>) -> u64
+    ensures { result ≡ number_in answer }
+{
+    match answer {
+        Ok(()) => 0,
+        Err(r) => r.into(),
+    }
+}
+
 // A fresh record at the front of the buffer.
 pub fn nodhulika_fresh(buffer: &mut [u8]) -> u64
     ensures { (result, buffer.new) ≡ lent_file [] buffer.old }
 {
-    lent::fresh(buffer)
+    number(lent::fresh(buffer))
 }
 
 // Whether the buffer holds a record.
 pub fn nodhulika_check(buffer: &[u8]) -> u64
     ensures { result ≡ check_number buffer.now }
 {
-    front::check(buffer)
+    number(front::check(buffer))
 }
 
 // A weighing.
 pub fn nodhulika_weigh(buffer: &mut [u8], m: u64, p: u64, q: u64, a: i64, b: u64, n: u64) -> u64
     ensures { (result, buffer.new) ≡ lent_call (journal.weigh (record { m = m; p = p; q = q; a = a; b = b; n = n })) buffer.old }
 {
-    lent::add(buffer, weighing_of(m, p, q, a, b, n))
+    let w = Weighing { m, p, q, a, b, n };
+    number(lent::add(buffer, w.into()))
 }
 
 // A paired weighing.
@@ -52,7 +64,17 @@ pub fn nodhulika_weigh_paired(
 ) -> u64
     ensures { (result, buffer.new) ≡ lent_call (journal.pair (record { m = m; p = p; q = q; p2 = p2; q2 = q2; a = a; b = b; n = n })) buffer.old }
 {
-    lent::add(buffer, paired_of(m, p, q, p2, q2, a, b, n))
+    let x = Paired {
+        m,
+        p,
+        q,
+        p2,
+        q2,
+        a,
+        b,
+        n,
+    };
+    number(lent::add(buffer, x.into()))
 }
 
 // A data sheet.
@@ -76,52 +98,63 @@ pub fn nodhulika_sheet(
 ) -> u64
     ensures { (result, buffer.new) ≡ lent_call (journal.install (record { fwd = fwd; aft = aft; dry = dry; wet = wet; nlp = nlp; front = record { arm = front_arm; most = front_most; step = front_step }; least = front_least; rear = record { arm = rear_arm; most = rear_most; step = rear_step }; water = record { arm = water_arm; most = water_most; step = water_step } })) buffer.old }
 {
-    let s = sheet_of(
+    let front = Station {
+        arm: front_arm,
+        most: front_most,
+        step: front_step,
+    };
+    let rear = Station {
+        arm: rear_arm,
+        most: rear_most,
+        step: rear_step,
+    };
+    let water = Station {
+        arm: water_arm,
+        most: water_most,
+        step: water_step,
+    };
+    let s = Sheet {
         fwd,
         aft,
         dry,
         wet,
         nlp,
-        front_arm,
-        front_least,
-        front_most,
-        front_step,
-        rear_arm,
-        rear_most,
-        rear_step,
-        water_arm,
-        water_most,
-        water_step,
-    );
-    lent::add(buffer, s)
+        front,
+        least: front_least,
+        rear,
+        water,
+    };
+    number(lent::add(buffer, s.into()))
 }
 
 // A change.
 pub fn nodhulika_change(buffer: &mut [u8], c: i64, arm: i64, flag: u64) -> u64
     ensures { (result, buffer.new) ≡ lent_call (journal.change (record { c = c; arm = arm; flag = flag })) buffer.old }
 {
-    lent::add(buffer, change_of(c, arm, flag))
+    let x = Change { c, arm, flag };
+    number(lent::add(buffer, x.into()))
 }
 
 // A seat entry.
 pub fn nodhulika_seat(buffer: &mut [u8], lower: i64, higher: i64) -> u64
     ensures { (result, buffer.new) ≡ lent_call (journal.seat (record { lower = lower; higher = higher })) buffer.old }
 {
-    lent::add(buffer, seat_of(lower, higher))
+    let f = Seat { lower, higher };
+    number(lent::add(buffer, f.into()))
 }
 
 // Taking back.
 pub fn nodhulika_undo(buffer: &mut [u8]) -> u64
     ensures { (result, buffer.new) ≡ lent_call journal.undo buffer.old }
 {
-    lent::undo(buffer)
+    number(lent::undo(buffer))
 }
 
 // Reading back: a file in the place of what the buffer holds.
 pub fn nodhulika_read(buffer: &mut [u8], file: &[u8]) -> u64
     ensures { (result, buffer.new) ≡ lent_read file.now buffer.old }
 {
-    lent::read(buffer, file)
+    number(lent::read(buffer, file))
 }
 
 // Three words at the front of a buffer.
@@ -134,33 +167,42 @@ fn put_words(out: &mut [u8], x: u64, y: u64, z: u64)
     words::put_number(out, 16, 8, z);
 }
 
+// Total, moment and centre into `answer`: 11 where it is too short.
+fn centre(buffer: &[u8], answer: &mut [u8]) -> Result<(), Refusal>
+    ensures { (number_in result, answer.new) ≡ centre_into (centre_for (held_in buffer.now)) answer.old }
+{
+    let c = front::centre(buffer)?;
+    if answer.len() < ANSWER {
+        return Err(Refusal::ShortBuffer);
+    }
+    put_words(answer, c.total, long_of(c.moment), long_of(c.centre));
+    Ok(())
+}
+
 // Total and moment, in half grams, and empty centre of gravity, into `answer`.
 pub fn nodhulika_centre(buffer: &[u8], answer: &mut [u8]) -> u64
     ensures { (result, answer.new) ≡ centre_into (centre_for (held_in buffer.now)) answer.old }
 {
-    let c = front::centre(buffer);
-    if c.number != 0 {
-        return c.number;
-    }
+    number(centre(buffer, answer))
+}
+
+// The placard into `out` and its counts into `answer`; where that is too short, the refusal with no byte for the placard.
+fn placard(buffer: &[u8], out: &mut [u8], answer: &mut [u8]) -> Result<(), Refusal>
+    ensures { (number_in result, out.new, answer.new) ≡ placard_into (held_in buffer.now) out.old answer.old }
+{
     if answer.len() < ANSWER {
-        return 11;
+        let mut nothing = [0u8; 0];
+        front::placard(buffer, &mut nothing)?;
+        return Ok(());
     }
-    put_words(answer, c.total, long_of(c.moment), long_of(c.centre));
-    0
+    let a = front::placard(buffer, out)?;
+    put_words(answer, a.bytes as u64, a.rows as u64, a.blank as u64);
+    Ok(())
 }
 
 // The placard, into `out`, and its bytes, rows and blank rows, into `answer`.
 pub fn nodhulika_placard(buffer: &[u8], out: &mut [u8], answer: &mut [u8]) -> u64
     ensures { (result, out.new, answer.new) ≡ placard_into (held_in buffer.now) out.old answer.old }
 {
-    if answer.len() < ANSWER {
-        let mut nothing = [0u8; 0];
-        return front::placard(buffer, &mut nothing).number;
-    }
-    let a = front::placard(buffer, out);
-    if a.number != 0 {
-        return a.number;
-    }
-    put_words(answer, a.bytes as u64, a.rows as u64, a.blank as u64);
-    0
+    number(placard(buffer, out, answer))
 }

@@ -6,5 +6,5 @@ use Rattle.nodhulika.proofs.nodhulika_change.Goals as goal
 pub returns : goal.returns
 unfolding call_of
 returns c =
-    let made = rw (to_z-of_z c.ranges.c, to_z-of_z c.ranges.arm) at c.change_of.ensures in
-    rw made at c.add.ensures
+    let made = rw (to_z-of_z c.ranges.c, to_z-of_z c.ranges.arm) at c.into.ensures in
+    rw c.number.ensures (rw made at c.add.ensures)

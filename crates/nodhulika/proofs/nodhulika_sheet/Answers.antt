@@ -6,5 +6,5 @@ use Rattle.nodhulika.proofs.nodhulika_sheet.Goals as goal
 pub returns : goal.returns
 unfolding call_of
 returns c =
-    let made = rw (to_z-of_z c.ranges.fwd, to_z-of_z c.ranges.aft, to_z-of_z c.ranges.front_arm, to_z-of_z c.ranges.rear_arm, to_z-of_z c.ranges.water_arm) at c.sheet_of-s.ensures in
-    rw made at c.add.ensures
+    let made = rw (to_z-of_z c.ranges.fwd, to_z-of_z c.ranges.aft, to_z-of_z c.ranges.front_arm, to_z-of_z c.ranges.rear_arm, to_z-of_z c.ranges.water_arm) at c.into.ensures in
+    rw c.number.ensures (rw made at c.add.ensures)
