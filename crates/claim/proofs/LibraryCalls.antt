@@ -1,6 +1,6 @@
 -- Demand 3 of the library to link, for every list of its calls: the buffer holds the journal, so that what the placard function
 -- promises of the buffer is the demand; by whether there is room for the counts. Assumes nothing.
-use Rattle.std.specs.Prelude.{◌≡◌}
+use Rattle.std.specs.Prelude.{◌≡◌, Result}
 use Rattle.std.proofs.Math.Path.{refl, ap}
 use Rattle.std.proofs.Common.{lt-ltb, le-ltb}
 use mathlib.Core.List.{List, []}

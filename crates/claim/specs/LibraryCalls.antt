@@ -6,7 +6,7 @@
 -- the record's, `Demand3`, of the journal of a record that is lent in n bytes (crates/lent/specs: numbers_in, journal_in): its
 -- numbers are the table's, and 11 where the buffer has no room for the file afterwards. `room_for_all` (Buffers.antt)
 -- shows that with 3,910 bytes it is the journal itself. Assumes nothing.
-use Rattle.std.specs.Prelude.{◌≡◌, not, ◌&&◌, ℤ}
+use Rattle.std.specs.Prelude.{◌≡◌, not, ◌&&◌, ℤ, Result}
 use Rattle.std.proofs.Math.Path.{refl, ap}
 use Rattle.std.proofs.Common.{sym, ◌∙◌, true≢false, mul-pos, lt-ltb}
 use mathlib.Core.List.{List, [], ◌∷◌, ◌++◌, append_assoc, append-nil}
@@ -30,7 +30,7 @@ use Rattle.paper.specs.Record.{sheet_of, weighing_stands, sheet_stands}
 use Rattle.paper.specs.Rows.{row_count}
 use Rattle.paper.specs.Placard.{text_length}
 use Rattle.paper.specs.Refusals.{placard_too_long}
-use Rattle.paper.specs.Answers.{placard_answer}
+use Rattle.paper.specs.Answers.{placard_refused, placard_answer}
 use Rattle.format.specs.Files.{file_length}
 use Rattle.front.specs.Front.{held_in}
 use Rattle.lent.specs.Lent.{lent_file, lent_call, lent_read, number_in, journal_in, numbers_in}
@@ -136,7 +136,7 @@ unfolding text_length row_count
 some_rows s = omega (arith, mul-pos {m = s.rear.most / s.rear.step + 1} {n = s.water.most / s.water.step + 1} (omega arith) (omega arith))
 
 pub nothing_left : (es : List Entry) → [] ≡ (placard_answer es []).1
-unfolding placard_too_long
+unfolding placard_too_long placard_refused
 nothing_left es = by (ending es [])
   where
     by : Ending es [] → [] ≡ (placard_answer es []).1

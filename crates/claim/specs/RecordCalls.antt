@@ -89,7 +89,7 @@ abbrev pub buffer_of : List ℕ → MutBor (List ℕ)
 buffer_of xs = record { ref_ptr = (0, 0); ghost_name = 0; now = xs }
 
 abbrev pub record_lent : Record → MutBor Record
-record_lent r = record { ref_ptr = 0; ghost_name = 0; now = r }
+record_lent r = record { ref_ptr = (0, 0); ghost_name = 0; now = r }
 
 -- one call more can run
 next : {calls : List Call} {r : Record} {answers : List ℕ} (x : Call) → Trace calls r answers → Trace (calls ++ x ∷ []) (answered r x).1 (answers ++ number_in (answered r x).0 ∷ [])
