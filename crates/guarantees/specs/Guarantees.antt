@@ -5,7 +5,7 @@
 -- of `file::read` promises of one call (its arguments, its answer, the arguments as it leaves them), and so with the others. What
 -- the words mean is in crates/paper/specs, and for the logbook and the library in crates/language/specs, crates/book/specs,
 -- crates/front/specs and crates/lent/specs; docs/ARCHITECTURE.md leads from the paper to each of them. Assumes nothing.
-use Rattle.std.specs.Prelude.{◌≡◌, Bool, true, not, ◌&&◌, List, ℕ, ◌*◌, ◌≤◌, ◌<◌, ℤ, length, get_or, set, take}
+use Rattle.std.specs.Prelude.{◌≡◌, Bool, true, not, ◌&&◌, List, ℕ, ◌*◌, ◌≤◌, ◌<◌, ℤ, length, get_or, set, take, Result, Ok}
 use Rattle.std.proofs.Math.Option.{some}
 use Rattle.std.specs.Int.Signed.{le_z}
 use Rattle.std.specs.Borrow.{Bor, MutBor}
@@ -16,7 +16,7 @@ use Rattle.paper.specs.declared.Placard.{Placard}
 use Rattle.paper.specs.declared.Row.TheVariants.{Range}
 use Rattle.paper.specs.declared.Sheet.{Sheet}
 use Rattle.paper.specs.declared.Seat.{Seat}
-use Rattle.paper.specs.declared.Written.{Written}
+use Rattle.paper.specs.declared.Refusal.{Refusal}
 use Rattle.paper.specs.Units.{between}
 use Rattle.paper.specs.Record.{Balance as Plain, sheet_of, seat_of, ends_of}
 use Rattle.paper.specs.Rows.{moment_beside, every_arm, some_arm, keeps_at}
@@ -36,7 +36,7 @@ use Rattle.aboard.specs.declared.Laden.{Laden}
 use Rattle.aboard.specs.Sides.{value_of}
 use Rattle.group.specs.declared.Terms.{Terms}
 use Rattle.record.specs.declared.Record.{Record}
-use Rattle.record.specs.declared.Kept.{Kept}
+use Rattle.record.proofs.Calls.{Answer}
 use Rattle.record.specs.Held.{record_of, held_by}
 use Rattle.file.specs.Longest as file
 use Rattle.file.proofs.longest.Reads as file-longest
@@ -52,8 +52,7 @@ use Rattle.language.specs.declared.Line.{Line}
 use Rattle.language.specs.Lines.{Means}
 use Rattle.language.proofs.Exactly as exactly
 use Rattle.language.proofs.read_line.Reads as read-line
-use Rattle.book.specs.declared.Reading.{Reading}
-use Rattle.book.specs.declared.Ending.TheVariants.{Whole}
+use Rattle.book.specs.declared.Failure.{Failure}
 use Rattle.book.proofs.Journals.{calls_of, whole_book}
 use Rattle.book.proofs.read.Reads as read-book
 use Rattle.listing.proofs.show.Reads as show
@@ -73,7 +72,7 @@ use Rattle.claim.specs.Carrying.{Carrying, sheet_in, row_moment, every_row_carri
 
 -- Demand 3: every list of calls from a fresh record, and a placard after it on any buffer.
 pub demand_3 : {calls : List Call} {r : Record} {answers : List ℕ} → on-record.Trace calls r answers
-    → (κs : _) (o o' : MutBor (List ℕ)) (a : Placard) → placard.Post κs (r, (o, tt)) a (r, (o', tt))
+    → (κs : _) (b b' : Bor Record) (o o' : MutBor (List ℕ)) (a : Result Placard Refusal) → b.now ≡ r → placard.Post κs (b, (o, tt)) a (b', (o', tt))
     → Demand3 (numbers calls) (journal calls) answers o.now a o'.now
 demand_3 = record-claim.demand_3
 
@@ -82,7 +81,7 @@ pub every_list_runs : (calls : List Call) (lent : List ℕ) → on-record.Run ca
 every_list_runs = on-record.every_list_runs
 
 -- No range that is read off such a placard, of a record or of the library to link, begins at 0, whatever the sheet's least load.
-pub none_from_nought : {numbers : List ℕ} {es : List Entry} {answers lent : List ℕ} {a : Placard} {left : List ℕ} → Demand3 numbers es answers lent a left
+pub none_from_nought : {numbers : List ℕ} {es : List Entry} {answers lent : List ℕ} {a : Result Placard Refusal} {left : List ℕ} → Demand3 numbers es answers lent a left
     → EachReading es a left (λ s f b r w rear water x. (lo hi : ℕ) → x ≡ Range lo hi → 1 ≤ lo)
 none_from_nought = claim.none_from_nought
 
@@ -132,32 +131,32 @@ longest_placard n h = h
 
 -- A record that a list of calls gave, written into any buffer that holds it and read back from those bytes, is the same record.
 pub written_then_read : {calls : List Call} {r : Record} {answers : List ℕ} → on-record.Trace calls r answers
-    → (κs : _) (o o' : MutBor (List ℕ)) (a : Written) → write.Post κs (r, (o, tt)) a (r, (o', tt)) → length (file_bytes (held_by r)) ≤ length o.now
-    → (q : Record) (λs : _) (i i' : Bor (List ℕ)) (k : Kept) → read.Post λs (q, (i, tt)) k (q, (i', tt)) → i.now ≡ take a.length o'.now
-    → k ≡ record { number = 0; log = r }
+    → (κs : _) (b b' : Bor Record) (o o' : MutBor (List ℕ)) (a : Result ℕ Refusal) → b.now ≡ r → write.Post κs (b, (o, tt)) a (b', (o', tt)) → length (file_bytes (held_by r)) ≤ length o.now
+    → (λs : _) (q q' : MutBor Record) (i i' : Bor (List ℕ)) (k : Result (Unit {0}) Refusal) → read.Post λs (q, (i, tt)) k (q', (i', tt)) → ((n : ℕ) → a ≡ Ok n → i.now ≡ take n o'.now)
+    → ◌≡◌ {A = Answer} (k, q'.now) (Ok tt, r)
 written_then_read = records.saved_and_read
 
 -- A file that reading accepts, of version 1 or 2, is written again with the version byte, its fifth, 2 and every other byte as it
 -- was.
-pub read_then_renewed : (q : Record) (κs : _) (i i' : _) (k : Kept) → read.Post κs (q, (i, tt)) k (q, (i', tt)) → k.number ≡ 0
-    → (λs : _) (o o' : _) (a : Written) → write.Post λs (k.log, (o, tt)) a (k.log, (o', tt)) → length i.now ≤ length o.now
-    → (a ≡ record { number = 0; length = length i.now }) × (o'.now ≡ over (set i.now 4 2) o.now)
+pub read_then_renewed : (κs : _) (q q' : MutBor Record) (i i' : _) (k : Result (Unit {0}) Refusal) → read.Post κs (q, (i, tt)) k (q', (i', tt)) → k ≡ Ok tt
+    → (λs : _) (b b' : Bor Record) (o o' : _) (a : Result ℕ Refusal) → b.now ≡ q'.now → write.Post λs (b, (o, tt)) a (b', (o', tt)) → length i.now ≤ length o.now
+    → (a ≡ Ok (length i.now)) × (o'.now ≡ over (set i.now 4 2) o.now)
 read_then_renewed = trips.read_then_renewed
 
 -- So a version 2 file is written again as it was.
-pub read_then_written_again : (q : Record) (κs : _) (i i' : _) (k : Kept) → read.Post κs (q, (i, tt)) k (q, (i', tt)) → k.number ≡ 0
-    → (λs : _) (o o' : _) (a : Written) → write.Post λs (k.log, (o, tt)) a (k.log, (o', tt)) → length i.now ≤ length o.now
-    → get_or i.now 4 0 ≡ 2 → (a ≡ record { number = 0; length = length i.now }) × (o'.now ≡ over i.now o.now)
+pub read_then_written_again : (κs : _) (q q' : MutBor Record) (i i' : _) (k : Result (Unit {0}) Refusal) → read.Post κs (q, (i, tt)) k (q', (i', tt)) → k ≡ Ok tt
+    → (λs : _) (b b' : Bor Record) (o o' : _) (a : Result ℕ Refusal) → b.now ≡ q'.now → write.Post λs (b, (o, tt)) a (b', (o', tt)) → length i.now ≤ length o.now
+    → get_or i.now 4 0 ≡ 2 → (a ≡ Ok (length i.now)) × (o'.now ≡ over i.now o.now)
 read_then_written_again = trips.read_then_written
 
 -- Reading accepts the files of the lists that accepted calls give, in each version that has their kinds (`Allows`: version 2, and
 -- version 1 where there is no paired weighing and no seat), and nothing else.
-pub every_file_accepted : (q : Record) (κs : _) (i i' : _) (k : Kept) → read.Post κs (q, (i, tt)) k (q, (i', tt))
-    → (v : ℕ) (es : List Entry) → Allows v es → accepted es ≡ true → i.now ≡ file_as v es → k ≡ record { number = 0; log = record_of es }
+pub every_file_accepted : (κs : _) (q q' : MutBor Record) (i i' : _) (k : Result (Unit {0}) Refusal) → read.Post κs (q, (i, tt)) k (q', (i', tt))
+    → (v : ℕ) (es : List Entry) → Allows v es → accepted es ≡ true → i.now ≡ file_as v es → ◌≡◌ {A = Answer} (k, q'.now) (Ok tt, record_of es)
 every_file_accepted = trips.accepts_files
 
-pub only_files_accepted : (q : Record) (κs : _) (i i' : _) (k : Kept) → read.Post κs (q, (i, tt)) k (q, (i', tt))
-    → k.number ≡ 0 → (v : ℕ) × (es : List Entry) × Allows v es × (accepted es ≡ true) × (i.now ≡ file_as v es) × (k.log ≡ record_of es)
+pub only_files_accepted : (κs : _) (q q' : MutBor Record) (i i' : _) (k : Result (Unit {0}) Refusal) → read.Post κs (q, (i, tt)) k (q', (i', tt))
+    → k ≡ Ok tt → (v : ℕ) × (es : List Entry) × Allows v es × (accepted es ≡ true) × (i.now ≡ file_as v es) × (q'.now ≡ record_of es)
 only_files_accepted = trips.accepts_only_files
 
 -- ---- logbooks
@@ -167,15 +166,15 @@ pub line_read_as_meant : (κs : _) (i i' : _) (l : Line) → read-line.Post κs 
 line_read_as_meant = exactly.read_as_meant
 
 -- A logbook that `book::read` takes to its end gives the record of the journal of its lines' calls, each of them accepted.
-pub book_is_its_journal : (κs : _) (i i' : _) (k : Reading) → read-book.Post κs (i, tt) k (i', tt) → k.ending ≡ Whole
-    → (k.log ≡ record_of (journal (calls_of (split feed i.now)))) × Each (λ (n : ℕ). n ≡ 0) (numbers (calls_of (split feed i.now)))
+pub book_is_its_journal : (κs : _) (i i' : _) (k : Result Record Failure) (r : Record) → read-book.Post κs (i, tt) k (i', tt) → k ≡ Ok r
+    → (r ≡ record_of (journal (calls_of (split feed i.now)))) × Each (λ (n : ℕ). n ≡ 0) (numbers (calls_of (split feed i.now)))
 book_is_its_journal = whole_book
 
 -- A record that a list of calls gave, shown and its listing read as a logbook, is the same record.
 pub shown_then_read : {calls : List Call} {r : Record} {answers : List ℕ} → on-record.Trace calls r answers
-    → (κs : _) (o o' : _) (a : Written) → show.Post κs (r, (o, tt)) a (r, (o', tt)) → a.number ≡ 0
-    → (λs : _) (i i' : _) (k : Reading) → read-book.Post λs (i, tt) k (i', tt) → i.now ≡ take a.length o'.now
-    → k ≡ record { log = r; ending = Whole }
+    → (κs : _) (q q' : Bor Record) (o o' : _) (a : Result ℕ Refusal) (n : ℕ) → q.now ≡ r → show.Post κs (q, (o, tt)) a (q', (o', tt)) → a ≡ Ok n
+    → (λs : _) (i i' : _) (k : Result Record Failure) → read-book.Post λs (i, tt) k (i', tt) → i.now ≡ take n o'.now
+    → k ≡ Ok r
 shown_then_read {r = r} t = read_again.shown_then_read r (on-record.follows t).made
 
 -- ---- the library to link

@@ -15,11 +15,13 @@ pub struct Centre(pub Result<CentreOfGravity, Refusal>);
 impl fmt::Display for Centre {
     fn fmt<W: fmt::Write>(&self, f: &mut fmt::Formatter<W>) -> fmt::Result {
         match self.0 {
-            Ok(CentreOfGravity {
-                total,
-                moment,
-                centre,
-            }) => write!(f, "0 {total} {moment} {centre}"),
+            Ok(
+                CentreOfGravity {
+                    total,
+                    moment,
+                    centre,
+                },
+            ) => write!(f, "0 {total} {moment} {centre}"),
             Err(refusal) => write!(f, "{} 0 0 0", u64::from(refusal)),
         }
     }

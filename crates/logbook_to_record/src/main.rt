@@ -23,6 +23,6 @@ fn main(rt: HostRuntime) -> io::Result<()> {
     }
     match book::read(&input[..n]) {
         Ok(log) => write(&rt, &log),
-        Err(failure) => notice::ending(&rt.stderr(), failure),
+        Err(failure) => println!(rt.stderr(); "{failure}"),
     }
 }

@@ -38,7 +38,7 @@ fn whole(rt: &impl Print, log: &Record) -> io::Result<()> {
 fn case(rt: &impl Print, text: &[u8]) -> io::Result<()> {
     match book::read(text) {
         Ok(log) => whole(rt, &log),
-        Err(failure) => notice::ending(rt, failure),
+        Err(failure) => println!(rt; "{failure}"),
     }
 }
 

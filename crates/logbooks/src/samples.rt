@@ -72,7 +72,7 @@ fn sample(rt: &(impl Files + Print), logbook: &str, placard: &str) -> io::Result
             printed(rt, &log, placard)?;
             filed(rt, &log)
         }
-        Err(failure) => notice::ending(rt, failure),
+        Err(failure) => println!(rt; "{failure}"),
     }
 }
 

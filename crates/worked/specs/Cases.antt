@@ -1,6 +1,6 @@
 -- What the table of cases does not say: mistakes that the paper warns of, rows for nobody, the files of G, of K, of a paired
 -- weighing and of a seat in each version, and a journal. Each is computed from the definitions.
-use Rattle.std.specs.Prelude.{◌≡◌, refl, Bool, true, false, ◌&&◌, List, [], ◌∷◌, ◌++◌, ℕ, ℤ, pos, take, replicate}
+use Rattle.std.specs.Prelude.{◌≡◌, refl, Bool, true, false, ◌&&◌, List, [], ◌∷◌, ◌++◌, ℕ, ℤ, pos, take, replicate, Ok}
 use Rattle.std.proofs.Math.Option.{Option, none, some, or_else, bind}
 use Rattle.laws.specs.Lists.{Each}
 use Rattle.paper.specs.declared.Sheet.{Sheet}
@@ -72,7 +72,7 @@ nobody_is_a_step = refl
 
 abbrev nobody : List Case
 nobody =
-    places spare (replicate 216 7) (record { number = 0; bytes = 216; rows = 6; blank = 4 }) (printed (
+    places spare (replicate 216 7) (Ok (record { bytes = 216; rows = 6; blank = 4 })) (printed (
     "0000.000 0000.000 0000.025 0000.050" ∷
     "0000.000 0000.050 -------- --------" ∷
     "0000.025 0000.000 0000.025 0000.025" ∷

@@ -1,11 +1,14 @@
 -- Tests that two rows, two lines or two answers of a placard are equal, and that what passes is. Assumes nothing.
-use Rattle.std.specs.Prelude.{◌≡◌, refl, Bool, true, false, ◌&&◌, List, ℕ, eqb}
-use Rattle.std.proofs.Common.{eqb-true}
+use Rattle.std.specs.Prelude.{◌≡◌, refl, Bool, true, false, ◌&&◌, List, ℕ, eqb, Result, Ok, Err}
+use Rattle.std.proofs.Common.{eqb-true, sym, ap, ◌∙◌}
 use Rattle.laws.specs.Tests.{left, right}
 use Rattle.laws.specs.Equal.{eq_list, same_list}
 use Rattle.paper.specs.declared.Row.{Row}
 use Rattle.paper.specs.declared.Row.TheVariants.{Range, Blank}
 use Rattle.paper.specs.declared.Placard.{Placard}
+use Rattle.paper.specs.declared.Refusal.{Refusal}
+use Rattle.paper.specs.Numbers.{number_of, refusal_of}
+use Rattle.paper.proofs.Numbers.{number_back}
 
 abbrev pub eq_row : Row → Row → Bool
 eq_row (Range a b) (Range c d) = eqb a c && eqb b d
@@ -38,25 +41,40 @@ same_line (r, w, x) (r', w', x') e =
 
 -- the answer of a placard call and the buffer as it leaves it
 abbrev pub Answer : Type 0
-Answer = Placard × List ℕ
+Answer = Result Placard Refusal × List ℕ
+
+unfoldable pub eq_placard : Placard → Placard → Bool
+eq_placard x y = eqb x.bytes y.bytes && (eqb x.rows y.rows && eqb x.blank y.blank)
+
+same_placard : (x y : Placard) → eq_placard x y ≡ true → x ≡ y
+unfolding eq_placard
+same_placard x y e =
+    let f = right (eqb x.bytes y.bytes) (eqb x.rows y.rows && eqb x.blank y.blank) e in
+    let bytes = eqb-true x.bytes y.bytes (left (eqb x.bytes y.bytes) (eqb x.rows y.rows && eqb x.blank y.blank) e) in
+    let rows = eqb-true x.rows y.rows (left (eqb x.rows y.rows) (eqb x.blank y.blank) f) in
+    let blank = eqb-true x.blank y.blank (right (eqb x.rows y.rows) (eqb x.blank y.blank) f) in
+    λ i. record { bytes = bytes i; rows = rows i; blank = blank i }
+
+unfoldable pub eq_result : Result Placard Refusal → Result Placard Refusal → Bool
+eq_result (Ok x) (Ok y) = eq_placard x y
+eq_result (Ok x) (Err r) = false
+eq_result (Err r) (Ok y) = false
+eq_result (Err r) (Err q) = eqb (number_of r) (number_of q)
+
+same_result : (x y : Result Placard Refusal) → eq_result x y ≡ true → x ≡ y
+unfolding eq_result
+same_result (Ok x) (Ok y) e = ap (λ (a : Placard). Ok a) (same_placard x y e)
+same_result (Ok x) (Err r) e = cc
+same_result (Err r) (Ok y) e = cc
+same_result (Err r) (Err q) e =
+    let same = sym (number_back r) ∙ ap refusal_of (eqb-true (number_of r) (number_of q) e) ∙ number_back q in
+    ap (λ (f : Refusal). Err f) same
 
 abbrev pub eq_answer : Answer → Answer → Bool
-eq_answer x y =
-    eqb x.0.number y.0.number && (eqb x.0.bytes y.0.bytes && (eqb x.0.rows y.0.rows && (eqb x.0.blank y.0.blank && eq_list eqb x.1 y.1)))
+eq_answer x y = eq_result x.0 y.0 && eq_list eqb x.1 y.1
 
 pub same_answer : (x y : Answer) → eq_answer x y ≡ true → x ≡ y
-same_answer x y e =
-    let n = eqb x.0.number y.0.number in
-    let m = eqb x.0.bytes y.0.bytes in
-    let r = eqb x.0.rows y.0.rows in
-    let b = eqb x.0.blank y.0.blank in
-    let l = eq_list eqb x.1 y.1 in
-    let e₁ = right n (m && (r && (b && l))) e in
-    let e₂ = right m (r && (b && l)) e₁ in
-    let e₃ = right r (b && l) e₂ in
-    let number = eqb-true x.0.number y.0.number (left n (m && (r && (b && l))) e) in
-    let bytes = eqb-true x.0.bytes y.0.bytes (left m (r && (b && l)) e₁) in
-    let rows = eqb-true x.0.rows y.0.rows (left r (b && l) e₂) in
-    let blank = eqb-true x.0.blank y.0.blank (left b l e₃) in
-    let buffer = same_list eqb eqb-true x.1 y.1 (right b l e₃) in
-    λ i. (record { number = number i; bytes = bytes i; rows = rows i; blank = blank i }, buffer i)
+same_answer (a, xs) (b, ys) e =
+    let answer = same_result a b (left (eq_result a b) (eq_list eqb xs ys) e) in
+    let bytes = same_list eqb (λ (m n : ℕ). eqb-true m n) xs ys (right (eq_result a b) (eq_list eqb xs ys) e) in
+    λ i. (answer i, bytes i)

@@ -12,7 +12,9 @@ use Rattle.paper.specs.declared.Sheet.{Sheet}
 use Rattle.paper.specs.declared.Seat.{Seat}
 use Rattle.paper.specs.declared.Row.{Row}
 use Rattle.paper.specs.declared.Row.TheVariants.{Range, Blank}
+use Rattle.std.specs.Prelude.{Result, Ok}
 use Rattle.paper.specs.declared.Placard.{Placard}
+use Rattle.paper.specs.declared.Refusal.{Refusal}
 use Rattle.paper.specs.Units.{half_grams}
 use Rattle.paper.specs.Record.{Balance, ends_of, with}
 use Rattle.paper.specs.Rows.{laden, at_most, is_step, good, smallest, largest, row_of, row, joined, loads, row_count}
@@ -114,14 +116,14 @@ row_is s f b =
 abbrev pub text_by : (ℕ → ℕ → Row) → Sheet → List ℕ
 text_by g s = joined (map (λ (x : ℕ × ℕ). line x.0 x.1 (g x.0 x.1)) (loads s))
 
-abbrev given_by : (ℕ → ℕ → Row) → Sheet → List ℕ → Placard × List ℕ
+abbrev given_by : (ℕ → ℕ → Row) → Sheet → List ℕ → Result Placard Refusal × List ℕ
 given_by g s buffer = (
-  record {
-    number = 0;
-    bytes = text_length s;
-    rows = row_count s;
-    blank = blank_of (map (λ (x : ℕ × ℕ). g x.0 x.1) (loads s));
-  },
+  Ok
+      (record {
+        bytes = text_length s;
+        rows = row_count s;
+        blank = blank_of (map (λ (x : ℕ × ℕ). g x.0 x.1) (loads s));
+      }),
   over (text_by g s) buffer,
 )
 
@@ -129,12 +131,12 @@ pub text_is : (s : Sheet) (f : Seat) (b : Balance) → text s f b ≡ text_by (r
 unfolding text
 text_is s f b = ap (λ (g : ℕ → ℕ → Row). text_by g s) (row_is s f b)
 
-given_is : (s : Sheet) (f : Seat) (b : Balance) (buffer : List ℕ) → placard_given s f b buffer ≡ given_by (row_by s f b) s buffer
+given_is : (s : Sheet) (f : Seat) (b : Balance) (buffer : List ℕ) → (Ok (placard_given s f b), over (text s f b) buffer) ≡ given_by (row_by s f b) s buffer
 unfolding placard_given text blank_count
 given_is s f b buffer = ap (λ (g : ℕ → ℕ → Row). given_by g s buffer) (row_is s f b)
 
 -- `placard_by` with the shorter search
-abbrev pub answer_by : ℕ → Option Sheet → Option Seat → Option Balance → List ℕ → Placard × List ℕ
+abbrev pub answer_by : ℕ → Option Sheet → Option Seat → Option Balance → List ℕ → Result Placard Refusal × List ℕ
 answer_by n none f o buffer = placard_refused n buffer
 answer_by n (some s) f none buffer = placard_refused n buffer
 answer_by n (some s) f (some b) buffer =
@@ -144,4 +146,4 @@ pub answer_is : (n : ℕ) (o : Option Sheet) (f : Option Seat) (q : Option Balan
 answer_is n none f q buffer = refl
 answer_is n (some s) f none buffer = refl
 answer_is n (some s) f (some b) buffer =
-    ap (λ (x : Placard × List ℕ). cond (eqb n 0) x (placard_refused n buffer)) (given_is s (ends_of s f) b buffer)
+    ap (λ (x : Result Placard Refusal × List ℕ). cond (eqb n 0) x (placard_refused n buffer)) (given_is s (ends_of s f) b buffer)

@@ -16,7 +16,11 @@ use Rattle.paper.specs.declared.Row.{Row}
 use Rattle.paper.specs.declared.Row.TheVariants.{Range, Blank}
 use Rattle.paper.specs.declared.Entry.{Entry}
 use Rattle.paper.specs.declared.Entry.TheVariants as entry
+use Rattle.std.specs.Prelude.{Result, Ok, Err}
 use Rattle.paper.specs.declared.Placard.{Placard}
+use Rattle.paper.specs.declared.Refusal.{Refusal}
+use Rattle.paper.specs.declared.Refusal.TheVariants.{ShortBuffer}
+use Rattle.paper.specs.Numbers.{refusal_of}
 use Rattle.paper.specs.Units.{is_weight, is_arm, half_grams}
 use Rattle.paper.specs.Record.{Balance, total_of, moment_of, alike, weighed, with, changed, changed_by, changes_of, last_weighing, balance_of, centre_of, sheet_of, is_none, sheet_stands, seat_of, ends_of}
 use Rattle.paper.specs.Rows.{every_arm, keeps_at, row, below, loads_of, joined, loads, row_count}
@@ -29,7 +33,7 @@ use Rattle.planes.specs.Plane.{kept_at}
 use Rattle.planes.proofs.HalfPlanes.{planes_of, keeps_planes}
 use Rattle.planes.proofs.Convex.{convex}
 use Rattle.worked.specs.Plates.{minus, weighing, blanik, G, H, I, J, gram_more, equals, G_between, J_between, J_weighed, G_ended, quarters, grams}
-use Rattle.worked.specs.Equal.{eq_row, same_row, Line, eq_line, same_line, eq_answer, same_answer}
+use Rattle.worked.specs.Equal.{eq_placard, eq_result, eq_row, same_row, Line, eq_line, same_line, eq_answer, same_answer}
 use Rattle.worked.specs.Search.{kept_by, kept_by_lem, row_by, row_is, text_by, text_is, answer_by, answer_is}
 
 -- ---- the table
@@ -50,7 +54,7 @@ pub data Case : Type 0 where
   -- a list and its file
   files : List Entry → List ℕ → Case
   -- a list, a buffer as lent, the answer of the placard call and the buffer as it leaves it
-  places : List Entry → List ℕ → Placard → List ℕ → Case
+  places : List Entry → List ℕ → Result Placard Refusal → List ℕ → Case
 
 -- the bytes of a printed line, and of some, each with a line feed behind it
 abbrev pub bytes : String → List ℕ
@@ -134,9 +138,9 @@ table =
     rows (G_between (minus 160000) (minus 35000)) ((0, 0, Blank) ∷ (0, 50000, Blank) ∷ (0, 100000, Blank) ∷ []) ∷
     rows (G_ended (minus 160000) (minus 35000)) G_rows ∷
     -- J into a buffer with two bytes more, of exactly its length, and with one too few
-    places J (replicate 110 7) (record { number = 0; bytes = 108; rows = 3; blank = 0 }) (printed J_lines ++ 7 ∷ 7 ∷ []) ∷
-    places J (replicate 108 7) (record { number = 0; bytes = 108; rows = 3; blank = 0 }) (printed J_lines) ∷
-    places J (replicate 107 7) (record { number = 11; bytes = 0; rows = 0; blank = 0 }) (replicate 107 7) ∷
+    places J (replicate 110 7) (Ok (record { bytes = 108; rows = 3; blank = 0 })) (printed J_lines ++ 7 ∷ 7 ∷ []) ∷
+    places J (replicate 108 7) (Ok (record { bytes = 108; rows = 3; blank = 0 })) (printed J_lines) ∷
+    places J (replicate 107 7) (Err ShortBuffer) (replicate 107 7) ∷
     -- loads that are no whole kilograms
     rows quarters (
     (0, 0, Range 70250 91250) ∷
@@ -216,7 +220,7 @@ has (some s) f none t = false
 has (some s) f (some b) t = t s (ends_of s f) b
 
 gives : Case → Bool
-unfolding total_of moment_of weighed centre_of sheet_of seat_of sheet_stands balance_of last_weighing changes_of changed_by changed with half_grams or_else kept_by row_by loads loads_of joined below line kilograms digits ends file_as body_as entry_bytes fields_bytes field_bytes bytes_of layout_of placard_number placard_too_long placard_refused first_number is_none text_length row_count blank_of over
+unfolding total_of moment_of weighed centre_of sheet_of seat_of sheet_stands balance_of last_weighing changes_of changed_by changed with half_grams or_else kept_by row_by loads loads_of joined below line kilograms digits ends file_as body_as entry_bytes fields_bytes field_bytes bytes_of layout_of placard_number placard_too_long placard_refused first_number is_none text_length row_count blank_of over refusal_of eq_result eq_placard
 gives (weighs w g m) = eq_z (weighed (alike w)).total g && eq_z (weighed (alike w)).moment m
 gives (centres w c) = eq_z (centre_of (weighed (alike w))) c
 gives (a_row es r w x) = has (sheet_of es) (seat_of es) (balance_of es) (λ s f b. eq_row (row_by s f b r w) x)

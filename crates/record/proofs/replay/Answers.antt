@@ -27,12 +27,12 @@ loop-i-preserved c =
     let slots = c.args.r.now.slots in
     let short : l.i < length slots = search rules in
     elim c.if-is_ok.branch [
-      then-is_ok w ↦
-        rw w.log-is
-        (one_more slots l.i _ _ short (gone_on _ _ l.invariant _ _ _ c.add.ensures c.add.new.self refl (ok_number _ (sym w.if-is_ok.ensures.value))))
+      | then-is_ok w ↦
+          rw w.log-is
+          (one_more slots l.i _ _ short (gone_on _ _ l.invariant _ _ _ c.add.ensures c.add.new.self refl (ok_number _ (sym w.if-is_ok.ensures.value))))
       | else-is_ok w ↦
-        rw w.log-is
-        (one_more slots l.i _ _ short (passed_over _ _ l.invariant _ _ _ c.add.ensures c.add.new.self refl (err_number _ (sym w.if-is_ok.ensures.value))))
+          rw w.log-is
+          (one_more slots l.i _ _ short (passed_over _ _ l.invariant _ _ _ c.add.ensures c.add.new.self refl (err_number _ (sym w.if-is_ok.ensures.value))))
     ]
 
 pub returns : goal.returns
