@@ -54,7 +54,9 @@ impl Standing {
         self.force = Some(x);
     }
 
-    // An entry at the end, or the number that it gets; then all stands as it was.
+    // An entry at the end, or the number that it gets; then all stands as it was. Inlined, since a call copies the entry twice for
+    // each of a file that is read.
+    #[inline(always)]
     pub fn add(&mut self, e: Entry) -> Result<(), Refusal>
         ensures { (number_in result, plainly self.new) ≡ judged (plainly self.old) e }
     {
