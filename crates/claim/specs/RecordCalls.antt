@@ -3,8 +3,8 @@
 --
 -- The hypotheses are the calls' own promises and nothing else: `weigh.Post` is what the contract of `Record::weigh` in
 -- crates/record/src/lib.rt promises of one call (its arguments, its answer, the arguments as it leaves them), and so with the
--- others; `q.now` is the record as a call finds it, `q'.now` as it leaves it, `i.now` the bytes of a slice. The conclusion is `Demand3` of the journal that the calls' arguments alone give
--- (crates/paper/specs: Journal). Assumes nothing.
+-- others; `q.now` is the record as a call finds it, `q'.now` as it leaves it, `i.now` the bytes of a slice. The conclusion is
+-- `Demand3` of the journal that the calls' arguments alone give (crates/paper/specs: Journal). Assumes nothing.
 use Rattle.std.specs.Prelude.{◌≡◌, refl, List, [], ◌∷◌, ◌++◌, ℕ, Result}
 use Rattle.std.proofs.Common.{append_assoc, append-nil}
 use Rattle.std.specs.Borrow.{Bor, MutBor}

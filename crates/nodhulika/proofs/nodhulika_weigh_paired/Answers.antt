@@ -1,4 +1,4 @@
--- `nodhulika::nodhulika_weigh_paired` meets its contract: it is what `lent::add` says of the paired weighing that the numbers make. Assumes nothing.
+-- `nodhulika::nodhulika_weigh_paired` meets its contract: `lent::add` of the paired weighing of its numbers. Assumes nothing.
 use mir.Facts.{to_z-of_z}
 use Rattle.paper.specs.Journal.{call_of}
 use Rattle.nodhulika.proofs.nodhulika_weigh_paired.Goals as goal
