@@ -5,33 +5,22 @@ use Prim.Native.Nat.{ℕ, ◌+◌, ◌*◌, ◌≤◌}
 use native.Mathlib.Omega.{arith}
 use lib.IntN.{ℤ, pos, ◌+ℤ◌, ◌*ℤ◌}
 use Rattle.laws.specs.declared.Sides.{Sides}
-use Rattle.laws.specs.Z.{Is, is_nat, is_int, is_add, is_sub, is_mul, same, SidesOf}
+use Rattle.laws.specs.Z.{is_nat, is_int, is_add, is_mul, same}
+use Rattle.laws.specs.Sides.{value_of, sides_of, sum_of, times_of, is_value, is_by, value_sides, value_sum, below_sides}
 use Rattle.paper.specs.declared.Sheet.{Sheet}
 use Rattle.paper.specs.Units.{half_grams}
 use Rattle.paper.specs.Record.{Balance}
 use Rattle.paper.specs.Rows.{total_beside, moment_beside}
+use Rattle.paper.proofs.Units.{IsArm}
 use Rattle.planes.proofs.Lines.{half_is, turned_is, beside_more-total, beside_more_moment}
 use Rattle.aboard.specs.declared.Arms.{Arms}
 use Rattle.aboard.specs.declared.Laden.{Laden}
-use Rattle.aboard.specs.Sides.{Below, Sided, value_of, sum_of, times_of, safe_of, safe_arm}
+use Rattle.aboard.specs.Sides.{Sided, safe_arm}
 use Rattle.aboard.specs.Aboard.{laid_out, plus, scaled, Stands, Beside, LoadOf, Room, Share}
 
--- a number's sides as `split` gives them are in an arm's range
-pub in_range_lem : {z : ℤ} {x : Sides} → SidesOf z x.up x.down → Below 2000000 x
-in_range_lem h = record { up = h.high; down = h.low }
-
-pub sided : {z : ℤ} {x : Sides} → SidesOf z x.up x.down → Sided 2000000 z x
-sided h = record { value = sym h.value; range = in_range_lem h }
-
--- a number by its sides
-pub is_value : (x : Sides) → Is (value_of x) x.up x.down
-is_value x = let h = is_sub (is_nat x.up) (is_nat x.down) in record { is = omega (arith, h.is) }
-
-pub is_by : (x : Sides) {z : ℤ} → value_of x ≡ z → Is z x.up x.down
-is_by x e = rw e at (is_value x)
-
-value_sum : (x y : Sides) {a b : ℤ} → value_of x ≡ a → value_of y ≡ b → value_of (sum_of x y) ≡ a +ℤ b
-value_sum x y e f = same (is_value (sum_of x y)) (is_add (is_by x e) (is_by y f)) (omega arith)
+-- an arm by its own sides
+pub sided : (z : ℤ) → IsArm z → Sided 2000000 z (sides_of z)
+sided z h = record { value = value_sides z; range = below_sides 2000000 z h.0 h.1 (omega arith) (omega arith) }
 
 -- the moment of a sum of weights at an arm
 line_sum : (x y : Sides) (arm t u : ℤ) → value_of x ≡ arm *ℤ t → value_of y ≡ arm *ℤ u → value_of (sum_of x y) ≡ arm *ℤ (t +ℤ u)
@@ -47,11 +36,6 @@ stands-plus s {t} {u} x y h k =
       forward = line_sum x.forward y.forward s.fwd t u h.forward k.forward;
       safe = line_sum x.safe y.safe (safe_arm s) t u h.safe k.safe;
     }
-
--- 20 times the safe aft limit
-pub value_safe : (fwd aft : Sides) {x y : ℤ} → value_of fwd ≡ x → value_of aft ≡ y → value_of (safe_of fwd aft) ≡ pos 19 *ℤ y +ℤ x
-value_safe fwd aft e f =
-    same (is_value (safe_of fwd aft)) (is_add (is_mul (is_nat 19) (is_by aft f)) (is_by fwd e)) (omega arith)
 
 -- ---- a load
 
@@ -123,15 +107,6 @@ room-more k x y z e h l =
 
 pub room_least : (k n : ℕ) (x : Laden) → k ≤ n → Room k x → Room n x
 room_least k n x m h =
-    record {
-      weight = omega (arith, h.weight);
-      moment = record { up = omega (arith, h.moment.up); down = omega (arith, h.moment.down) };
-      forward = record { up = omega (arith, h.forward.up); down = omega (arith, h.forward.down) };
-      safe = record { up = omega (arith, h.safe.up); down = omega (arith, h.safe.down) };
-    }
-
-pub share_room : (x : Laden) → Share x → Room 256 x
-share_room x h =
     record {
       weight = omega (arith, h.weight);
       moment = record { up = omega (arith, h.moment.up); down = omega (arith, h.moment.down) };

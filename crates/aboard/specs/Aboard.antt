@@ -2,11 +2,12 @@
 -- sums in their words.
 use Rattle.std.specs.Prelude.{◌≡◌, ℕ, ◌+◌, ◌*◌, ◌≤◌, ℤ, pos, ◌*ℤ◌}
 use Rattle.laws.specs.declared.Sides.{Sides}
+use Rattle.laws.specs.Sides.{Below, value_of, sum_of, times_of}
 use Rattle.paper.specs.declared.Sheet.{Sheet}
 use Rattle.paper.specs.Units.{half_grams}
 use Rattle.paper.specs.Record.{Balance}
 use Rattle.paper.specs.Rows.{total_beside, moment_beside}
-use Rattle.aboard.specs.Sides.{Below, value_of, sum_of, times_of, safe_arm, room}
+use Rattle.aboard.specs.Sides.{safe_arm, room}
 use Rattle.aboard.specs.declared.Arms.{Arms}
 use Rattle.aboard.specs.declared.Laden.{Laden}
 

@@ -3,7 +3,8 @@
 // What the front load of a row comes on top of: the glider with a rear load and water aboard. It is carried from row to row by
 // additions alone.
 ghost use Rattle.std.specs.Prelude.{◌≡◌, ℕ, ◌+◌, ◌*◌, ◌≤◌};
-ghost use Rattle.aboard.specs.Sides.{Below, Sided, times_of, sum_of, safe_of, safe_arm, value_of, room};
+ghost use Rattle.laws.specs.Sides.{value_of, Below};
+ghost use Rattle.aboard.specs.Sides.{Sided, safe_arm};
 
 use balance::Balance;
 use laws::Sides;
@@ -34,39 +35,6 @@ pub struct Laden {
     pub safe: Sides,
 }
 
-// A number times a weight.
-fn turned(weight: u64, arm: Sides) -> Sides
-    requires { (weight ≤ 5000000) × Below 40000000 arm }
-    ensures { (result ≡ times_of weight arm) × ((n : ℕ) → weight ≤ n → Below (n * 40000000) result) }
-{
-    Sides {
-        up: weight * arm.up,
-        down: weight * arm.down,
-    }
-}
-
-// The sum of two numbers.
-fn both(x: Sides, y: Sides) -> Sides
-    requires { Below (room 256) x × Below (room 0) y }
-    ensures { result ≡ sum_of x y }
-{
-    Sides {
-        up: x.up + y.up,
-        down: x.down + y.down,
-    }
-}
-
-// 20 times the safe aft limit, which is 5 % of the range inside AFT: 19 AFT + FWD.
-fn safe_arm(fwd: Sides, aft: Sides) -> Sides
-    requires { Below 2000000 fwd × Below 2000000 aft }
-    ensures { (result ≡ safe_of fwd aft) × Below 40000000 result }
-{
-    Sides {
-        up: 19 * aft.up + fwd.up,
-        down: 19 * aft.down + fwd.down,
-    }
-}
-
 impl Arms {
     ghost use Rattle.balance.specs.Balance.{plain, Bounded};
     ghost use Rattle.aboard.specs.Aboard.{laid_out, Beside, LoadOf, Room, Share};
@@ -75,14 +43,18 @@ impl Arms {
         ensures { result.force ≡ force }
     {
         let s = force.sheet;
-        let fwd = laws::split(s.fwd);
-        let aft = laws::split(s.aft);
+        let fwd = Sides::from(s.fwd);
+        let aft = Sides::from(s.aft);
+        // The safe aft limit is 5 % of the range inside AFT.
+        let safe = aft * 19 + fwd;
+        let rear = Sides::from(s.rear.arm);
+        let water = Sides::from(s.water.arm);
         Arms {
             force,
             fwd,
-            safe: safe_arm(fwd, aft),
-            rear: laws::split(s.rear.arm),
-            water: laws::split(s.water.arm),
+            safe,
+            rear,
+            water,
         }
     }
 
@@ -94,8 +66,8 @@ impl Arms {
         Laden {
             weight,
             moment,
-            forward: turned(weight, self.fwd),
-            safe: turned(weight, self.safe),
+            forward: self.fwd * weight,
+            safe: self.safe * weight,
         }
     }
 
@@ -105,7 +77,7 @@ impl Arms {
         ensures { Share result × LoadOf self.now.force.sheet grams (value_of arm) result }
     {
         let weight = Weight::HALVES * grams;
-        self.laid(weight, turned(weight, arm))
+        self.laid(weight, arm * weight)
     }
 
     // The glider with a rear load and no water: what the first row beside it begins with.
@@ -113,11 +85,7 @@ impl Arms {
         requires { Bounded 1024 b × (rear ≤ 500000) }
         ensures { Room 0 result × Beside self.now.force.sheet (plain b) rear 0 result }
     {
-        let moment = Sides {
-            up: b.aft,
-            down: b.fore,
-        };
-        let empty = self.laid(b.total, moment);
+        let empty = self.laid(b.total, b.moment);
         empty.carried(self.grams_at(rear, self.rear))
     }
 }
@@ -135,9 +103,9 @@ impl Laden {
     {
         Laden {
             weight: self.weight + load.weight,
-            moment: both(self.moment, load.moment),
-            forward: both(self.forward, load.forward),
-            safe: both(self.safe, load.safe),
+            moment: self.moment + load.moment,
+            forward: self.forward + load.forward,
+            safe: self.safe + load.safe,
         }
     }
 }

@@ -1,14 +1,17 @@
--- The empty centre of gravity: the definition gives the one unit x with 2M - G < 2Gx ≤ 2M + G, and the code's two quotients
--- do too. Assumes nothing.
-use mathlib.Core.Path.{◌≡◌}
-use Prim.Native.Nat.{ℕ, ◌+◌, ◌-◌, ◌*◌, ◌/◌, ◌≤◌, ◌<◌}
-use native.Mathlib.Nat.{div-add-mod', mod-lt}
+-- The empty centre of gravity: the definition gives the one unit x with 2M - G < 2Gx ≤ 2M + G, and the code's quotient is the
+-- definition's. Assumes nothing.
+use mathlib.Core.Path.{◌≡◌, refl, ◌∙◌}
+use Prim.Native.Nat.{ℕ, ◌*◌, ◌<◌}
 use native.Mathlib.Omega.{arith}
-use lib.IntN.{ℤ, pos, ◌+ℤ◌, ◌-ℤ◌, ◌*ℤ◌}
-use lib.Signed.{◌≤ℤ◌, ◌<ℤ◌}
-use Rattle.laws.specs.Z.{zs, Is, is_nat, is_int, is_add, is_sub, is_mul}
+use lib.IntN.{ℤ, pos, negsuc, ◌+ℤ◌, ◌-ℤ◌, ◌*ℤ◌}
+use lib.Signed.{◌≤ℤ◌, ◌<ℤ◌, shr_z}
+use Rattle.std.specs.Int.{int_div_euclid}
+use Rattle.laws.specs.Z.{zs, is_nat, is_int, is_add, is_sub, is_mul}
 use Rattle.laws.specs.Floor.{Step, floor_step, one_step}
+use Rattle.laws.specs.Sides.{value_of}
 use Rattle.paper.specs.Record.{Balance, centre_of}
+use Rattle.balance.specs.declared.Balance.{Balance as Carried}
+use Rattle.balance.specs.Balance.{plain}
 
 -- x is nearest to M/G, a half going towards the tail
 pub record Nearest (M : ℤ) (G : ℕ) (x : ℤ) : Type 0 where
@@ -60,33 +63,11 @@ module _ (M : ℤ) (G : ℕ) (n : ℤ) (some : 0 < G) where
       } in
       one_step (2 * G) x (centre_of (with M G n)) (pos 2 *ℤ M +ℤ pos G) step floor
 
--- the same by naturals: M is a less b, and x is u less v
-near : (M x n : ℤ) (G a b u v : ℕ) → 0 < G → Is M a b → Is x u v → 2 * (G * u) + 2 * b ≤ 2 * a + G + 2 * (G * v) → 2 * a + 2 * (G * v) < 2 * (G * u) + G + 2 * b → x ≡ centre_of (with M G n)
-near M x n G a b u v some m i lo hi =
-    nearest_centre M G n some x
-    (record {
-      above = omega (arith, zs, is_mul (is_nat (2 * G)) i, is_sub (is_mul (is_nat 2) m) (is_nat G));
-      upto = omega (arith, zs, is_mul (is_nat (2 * G)) i, is_add (is_mul (is_nat 2) m) (is_nat G));
-    })
+-- the quotient that the code takes rounds down too
+rounded_down : (z : ℤ) (n : ℕ) → int_div_euclid z (pos n) ≡ shr_z z n
+rounded_down (pos a) n = refl
+rounded_down (negsuc a) n = refl
 
--- a quotient by 2 * G, and what it is of
-quot : (G n : ℕ) → 0 < G → (2 * (G * (n / (2 * G))) ≤ n) × (n < 2 * (G * (n / (2 * G))) + 2 * G)
-quot G n some = (
-  omega (arith, div-add-mod' n (2 * G)),
-  omega (arith, div-add-mod' n (2 * G), mod-lt n {m = 2 * G} (omega arith)),
-)
-
--- what the code reckons, where the moment turns aft, and where it turns forward
-module _ (G aft fore : ℕ) (n : ℤ) (some : 0 < G) (x : ℤ) where
-  abbrev Right : Type 0
-  Right = x ≡ centre_of (with (pos aft -ℤ pos fore) G n)
-
-  pub turns_aft : fore ≤ aft → (y : ℕ) → y ≡ (2 * (aft - fore) + G) / (2 * G) → x ≡ pos y -ℤ pos 0 → Right
-  turns_aft h y ey e =
-      let q = quot G (2 * (aft - fore) + G) some in
-      near _ x n G _ _ y 0 some (is_sub (is_nat aft) (is_nat fore)) (record { is = omega (arith, zs, is_sub (is_nat y) (is_nat 0)) }) (rw ey (omega arith)) (rw ey (omega arith))
-
-  pub turns_forward : aft < fore → (y : ℕ) → y ≡ (2 * (fore - aft) + G - 1) / (2 * G) → x ≡ pos 0 -ℤ pos y → Right
-  turns_forward h y ey e =
-      let q = quot G (2 * (fore - aft) + G - 1) some in
-      near _ x n G _ _ 0 y some (is_sub (is_nat aft) (is_nat fore)) (record { is = omega (arith, zs, is_sub (is_nat 0) (is_nat y)) }) (rw ey (omega arith)) (rw ey (omega arith))
+pub quotient : (b : Carried) (r x y : ℤ) → r ≡ int_div_euclid x y → x ≡ pos 2 *ℤ value_of b.moment +ℤ pos b.total → y ≡ pos (2 * b.total) → r ≡ centre_of (plain b)
+unfolding centre_of
+quotient b r x y q e f = q ∙ rw (e, f) (rounded_down (pos 2 *ℤ value_of b.moment +ℤ pos b.total) (2 * b.total))

@@ -1,5 +1,6 @@
 -- The balance that the code carries as the paper's G, M and n, and the bounds that keep its sums in their words.
-use Rattle.std.specs.Prelude.{ℕ, ◌*◌, ◌≤◌, pos, ◌-ℤ◌}
+use Rattle.std.specs.Prelude.{ℕ, ◌*◌, ◌≤◌, pos}
+use Rattle.laws.specs.Sides.{Below, value_of}
 use Rattle.paper.specs.Record as paper
 use Rattle.balance.specs.declared.Balance.{Balance}
 
@@ -7,9 +8,8 @@ use Rattle.balance.specs.declared.Balance.{Balance}
 abbrev pub an_entry : ℕ
 an_entry = 64000000000000
 
--- M is what turns aft less what turns forward
 abbrev pub plain : Balance → paper.Balance
-plain b = record { total = pos b.total; moment = pos b.aft -ℤ pos b.fore; non_lifting = pos b.nonlifting }
+plain b = record { total = pos b.total; moment = value_of b.moment; non_lifting = pos b.nonlifting }
 
 -- G is 2..4,000,000 half grams and n is 0..G
 pub record Ranged (b : Balance) : Type 0 where
@@ -20,5 +20,4 @@ pub record Ranged (b : Balance) : Type 0 where
 -- the balance of k accepted entries
 pub record Bounded (k : ℕ) (b : Balance) : Type 0 where
   pub ranged : Ranged b
-  pub aft : b.aft ≤ an_entry * k
-  pub fore : b.fore ≤ an_entry * k
+  pub moment : Below (an_entry * k) b.moment

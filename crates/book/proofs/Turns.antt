@@ -1,7 +1,6 @@
 -- One line more: a text's lines one by one, what lines come to by the first of them, and a call's outcome by whether it is
 -- refused. Assumes nothing.
 use mathlib.Core.Path.{◌≡◌, refl, sym, ap, ◌∙◌}
-use mathlib.Core.Bool.{Bool, true, false, cond}
 use mathlib.Core.List.{List, [], ◌∷◌}
 use Prim.Native.Nat.{ℕ, suc, ◌+◌, ◌≤◌, ◌<◌}
 use native.Mathlib.Omega.{arith}
@@ -9,35 +8,19 @@ use borrow.Author.Tests.{eq-eqb, ne_eqb}
 use lib.Dec.{eqb}
 use lib.ListN.{length, get_or}
 use Rattle.std.specs.Prelude.{Result, Ok, Err, MatchResult, IsErrAnd}
-use Rattle.std.specs.List.{slice_split, onto_first, enumerate_from}
-use Rattle.std.proofs.lemmas.List.Splits.{length-slice_split}
-use Rattle.std.proofs.lemmas.List.FromFn.{length-enumerate_from, get_or-enumerate_from}
-use Rattle.laws.specs.Splits.{split, in_first}
+use Rattle.std.specs.List.{slice_split, enumerate_from}
+use Rattle.std.proofs.lemmas.List.FromFn.{length-enumerate_from}
+use Rattle.laws.specs.Splits.{split}
 use Rattle.paper.specs.declared.Entry.{Entry}
 use Rattle.paper.specs.declared.Refusal.{Refusal}
 use Rattle.paper.specs.Placard.{feed}
 use Rattle.paper.specs.Journal.{Call, call_number, accepted_call}
 use Rattle.language.specs.Lines.{says}
+use Rattle.language.proofs.Values.{split_is, part_here}
 use Rattle.book.specs.declared.Failure.{Failure}
 use Rattle.book.specs.Books.{Outcome, stands, refused, not_understood, called, after_line, after_lines}
 
 -- ---- the lines of a text
-
-first_is : (x : ℕ) (ps : List (List ℕ)) → 0 < length ps → onto_first x ps ≡ in_first x ps
-first_is x [] h = absurd (omega arith)
-first_is x (p ∷ ps) h = refl
-
-split_by : (t : Bool) (x : ℕ) (ps qs : List (List ℕ)) → qs ≡ ps → 0 < length qs → cond t ([] ∷ qs) (onto_first x qs) ≡ cond t ([] ∷ ps) (in_first x ps)
-split_by true x ps qs e h = ap (λ (l : List (List ℕ)). [] ∷ l) e
-split_by false x ps qs e h = first_is x qs h ∙ ap (in_first x) e
-
--- they are the parts that a slice is cut into
-pub split_is : (c : ℕ) (xs : List ℕ) → slice_split (λ (b : ℕ). eqb b c) xs ≡ split c xs
-unfolding split
-split_is c [] = refl
-split_is c (x ∷ xs) =
-    split_by (eqb x c) x (split c xs) (slice_split (λ (b : ℕ). eqb b c) xs) (split_is c xs)
-    (let n = length-slice_split (λ (b : ℕ). eqb b c) xs in omega arith)
 
 -- a line behind the first i, and the number that it comes with
 abbrev pub IsLine : List ℕ → ℕ → ℕ → List ℕ → Type 0
@@ -47,15 +30,10 @@ IsLine s i k xs = (k ≡ i) × (i < length (split feed s)) × (xs ≡ get_or (sp
 abbrev pub parts : List ℕ → List (ℕ × List ℕ)
 parts s = enumerate_from 0 (slice_split (λ (b : ℕ). eqb b feed) s)
 
-add_none : (i : ℕ) → 0 + i ≡ i
-add_none i = omega arith
-
 pub line_here : (s : List ℕ) (i k : ℕ) (xs : List ℕ) → (i < length (parts s)) × ((k, xs) ≡ get_or (parts s) i (k, xs)) → IsLine s i k xs
 line_here s i k xs t =
-    let ps = slice_split (λ (b : ℕ). eqb b feed) s in
-    let few : i < length ps = rw (length-enumerate_from 0 ps) at t.0 in
-    let e : (k, xs) ≡ (0 + i, get_or ps i xs) = t.1 ∙ get_or-enumerate_from 0 ps i (k, xs) few in
-    (ap (λ (p : ℕ × List ℕ). p.0) e ∙ add_none i, rw (split_is feed s) at few, rw (split_is feed s) at (ap (λ (p : ℕ × List ℕ). p.1) e))
+    let p = part_here (slice_split (λ (b : ℕ). eqb b feed) s) i k xs t in
+    (p.0, rw (split_is feed s) at p.1, rw (split_is feed s) at p.2)
 
 pub no_more : (s : List ℕ) (i : ℕ) → i ≡ length (parts s) → length (split feed s) ≤ i
 no_more s i e =

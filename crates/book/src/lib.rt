@@ -26,10 +26,7 @@ impl fmt::Display for Failure {
 
     fn fmt<W: fmt::Write>(&self, f: &mut fmt::Formatter<W>) -> fmt::Result {
         match self {
-            Failure::Refused(line, why) => {
-                let number = u64::from(*why);
-                write!(f, "line {line}: refused {number}")
-            }
+            Failure::Refused(line, why) => write!(f, "line {line}: {why}"),
             Failure::NotUnderstood(line) => write!(f, "line {line}: not understood"),
         }
     }
@@ -61,8 +58,7 @@ pub fn read(s: &[u8]) -> Result<Record, Failure>
             }
             Line::Entry(e) => {
                 standing.add(e).map_err(|why| Failure::Refused(line, why))?;
-                log.slots[log.count] = e;
-                log.count += 1;
+                log.push(e);
             }
         }
     }

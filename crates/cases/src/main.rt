@@ -9,14 +9,11 @@
 // that.
 mod report;
 
-use script::calls::each_line;
+use script::calls::run;
 use std::io;
 
-// All cases.
-const CASES: usize = 65536;
-
 fn main(rt: HostRuntime) -> io::Result<()> {
-    let mut input = [0u8; CASES];
-    let n = lines::read_full(&mut rt.reader(), &mut input)?;
-    each_line(&input[..n], |log, line| report::tried(&rt, log, line))
+    run(&mut rt.reader(), |log, label, last| {
+        report::tried(&rt, log, label, last)
+    })
 }

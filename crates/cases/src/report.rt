@@ -1,21 +1,20 @@
-// A line of output for each line of cases.
+// A line of output for each case.
 use lines::{Centre, number};
+use paper::Refusal;
 use record::Record;
-use script::calls::{head_and_calls, played};
 use std::io;
 
-// A line, which changes the record.
-pub fn tried(rt: &impl Print, log: &mut Record, line: &[u8]) -> io::Result<()> {
-    if line.starts_with(b"#") {
-        return Ok(());
-    }
-    let (label, calls) = head_and_calls(line);
-    let last = played(log, calls);
+// A case's label, the record that it leaves, and what its last call answers.
+pub fn tried(
+    rt: &impl Print,
+    log: &Record,
+    label: &str,
+    last: Result<(), Refusal>,
+) -> io::Result<()> {
     let mut before = *log;
     let back = before.undo();
-    rt.write_all(label)?;
     println!(rt;
-        ": {}; {}; {}; {}",
+        "{label}: {}; {}; {}; {}",
         number(&last),
         Centre(log.centre_of_gravity()),
         number(&back),

@@ -15,7 +15,7 @@ pub fn answer(standing: &Standing) -> Result<CentreOfGravity, Refusal>
     let b = standing.balance.ok_or(Refusal::NoWeighing)?;
     Ok(CentreOfGravity {
         total: b.total,
-        moment: balance::moment(b),
-        centre: balance::centre(b),
+        moment: b.moment.value(),
+        centre: b.centre(),
     })
 }

@@ -3,14 +3,15 @@ use mathlib.Core.Path.{◌≡◌, refl, ◌∙◌, ap, ap₂}
 use mathlib.Core.Bool.{Bool, true, false, not, cond, ◌&&◌}
 use mathlib.Core.Option.{some}
 use mathlib.Core.List.{[], ◌∷◌}
-use Prim.Native.Nat.{ℕ, ◌+◌}
+use Prim.Native.Nat.{ℕ}
 use native.Mathlib.Omega.{arith}
 use lib.Dec.{leb, eqb}
-use lib.IntN.{ℤ, pos, negsuc, nat_abs, ◌+ℤ◌, ◌-ℤ◌, ◌*ℤ◌}
+use lib.IntN.{ℤ, pos, negsuc, nat_abs, ◌+ℤ◌, ◌*ℤ◌}
 use lib.Signed.{le_z, lt_z, ◌≤ℤ◌}
-use borrow.Author.Tests.{not-false, eq-eqb, ne_eqb}
-use Rattle.laws.specs.Tests.{both, left, right, left_fails, right_fails, left_passes, not_left, not_right, turned, turned_no}
-use Rattle.laws.specs.Z.{zs, is_nat, is_int, is_add, is_sub, is_mul, abs_eq, goal_le_z, goal_nle_z}
+use borrow.Author.Tests.{not-false}
+use Rattle.laws.specs.Tests.{both, left, right, not_left, not_right}
+use Rattle.laws.specs.Z.{zs, is_nat, is_int, is_mul, goal_le_z, hyp_nlt_z}
+use Rattle.laws.specs.Sides.{value_of, sides_of, sum_of, value_sides, value_sum}
 use Rattle.paper.proofs.Numbers.{no_first, no_other}
 use Rattle.paper.specs.declared.Change.{Change}
 use Rattle.paper.specs.Units.{between, is_arm, half_grams}
@@ -28,10 +29,13 @@ ranged {lo} {hi} {z} e =
     let h = right (le_z lo z) (le_z z hi) e in
     (omega (arith, zs), omega (arith, zs))
 
+-- a number that lies neither before it nor behind it
+pub inside : (lo hi z : ℤ) → lt_z z lo ≡ false → lt_z hi z ≡ false → between lo hi z ≡ true
+inside lo hi z l h = both (le_z lo z) (le_z z hi) (goal_le_z lo z (hyp_nlt_z z lo l)) (goal_le_z z hi (hyp_nlt_z hi z h))
+
 -- ---- c and the flag in their ranges
 
 module _ (x : Change) where
-  -- the four tests
   abbrev low : Bool
   low = le_z (negsuc 1999999) x.c
 
@@ -43,28 +47,6 @@ module _ (x : Change) where
 
   abbrev flag : Bool
   flag = leb x.flag 1
-
-  -- a test of c fails
-  fails : (low && high && some') ≡ false → is_change x ≡ false
-  unfolding is_change
-  fails e = left_fails (low && high && some') flag e
-
-  pub c_low : lt_z x.c (negsuc 1999999) ≡ true → is_change x ≡ false
-  c_low e = fails (left_fails (low && high) some' (left_fails low high (goal_nle_z (negsuc 1999999) x.c (omega (arith, zs)))))
-
-  pub c_high : lt_z (pos 2000000) x.c ≡ true → is_change x ≡ false
-  c_high e = fails (left_fails (low && high) some' (right_fails low high (goal_nle_z x.c (pos 2000000) (omega (arith, zs)))))
-
-  pub c_none : x.c ≡ pos 0 → is_change x ≡ false
-  c_none e = fails (right_fails (low && high) some' (turned (eqb (nat_abs x.c) 0) (eq-eqb _ _ (ap nat_abs e))))
-
-  pub c_some : lt_z x.c (negsuc 1999999) ≡ false → lt_z (pos 2000000) x.c ≡ false → (x.c ≡ pos 0 → ⊥) → leb x.flag 1 ≡ is_change x
-  unfolding is_change
-  c_some l h n =
-      left_passes (low && high && some') flag
-      (both (low && high) some'
-      (both low high (goal_le_z (negsuc 1999999) x.c (omega (arith, zs))) (goal_le_z x.c (pos 2000000) (omega (arith, zs))))
-      (turned_no (eqb (nat_abs x.c) 0) (ne_eqb _ _ (λ (e : nat_abs x.c ≡ 0). n (omega (arith, zs, abs_eq x.c))))))
 
   pub c_range : is_change x ≡ true → (negsuc 1999999 ≤ℤ x.c) × (x.c ≤ℤ pos 2000000)
   unfolding is_change
@@ -103,18 +85,12 @@ module _ (b : Balance) (x : Change) where
   part_test t n e f = ap₂ (between (pos 0)) e f
 
 -- the code's new balance is the paper's
-pub after_is : (b r : Balance) (x : Change) (u d : ℕ) → pos r.total ≡ pos b.total +ℤ gain x → pos r.nonlifting ≡ pos b.nonlifting +ℤ part x
-    → gain x *ℤ x.arm ≡ pos u -ℤ pos d → r.aft ≡ b.aft + u → r.fore ≡ b.fore + d → plain r ≡ paper.changed (plain b) x
+pub after_is : (b r : Balance) (x : Change) → pos r.total ≡ pos b.total +ℤ gain x → pos r.nonlifting ≡ pos b.nonlifting +ℤ part x
+    → r.moment ≡ sum_of b.moment (sides_of (gain x *ℤ x.arm)) → plain r ≡ paper.changed (plain b) x
 unfolding paper.changed paper.with
-after_is b r x u d et en em ea ef =
-    let moment : pos r.aft -ℤ pos r.fore ≡ pos b.aft -ℤ pos b.fore +ℤ gain x *ℤ x.arm =
-    omega (
-      arith,
-      zs,
-      is_sub (is_nat r.aft) (is_nat r.fore),
-      is_add (is_sub (is_nat b.aft) (is_nat b.fore)) (is_int (gain x *ℤ x.arm)),
-      is_sub (is_nat u) (is_nat d),
-    ) in
+after_is b r x et en em =
+    let more = sides_of (gain x *ℤ x.arm) in
+    let moment : value_of r.moment ≡ value_of b.moment +ℤ gain x *ℤ x.arm = ap value_of em ∙ value_sum b.moment more refl (value_sides (gain x *ℤ x.arm)) in
     λ k. record { total = et k; moment = moment k; non_lifting = en k }
 
 -- ---- the number of a change behind 9, by what holds

@@ -1,32 +1,52 @@
--- A product of half grams and an arm, each in its range, is small: each side of it is a sum of two products of sides. Assumes
--- nothing.
-use Prim.Native.Nat.{◌≤◌}
+-- What a change adds, where it is reckoned with: a sum with a weight and a product with an arm fit in their words and are what is
+-- read back from there, and each side of a product is a sum of two products of sides. Assumes nothing.
+use Prim.Native.Nat.{ℕ, ◌≤◌}
+use mathlib.Core.Path.{◌≡◌}
 use native.Mathlib.Omega.{arith}
 use native.Mathlib.Nat.{mul-le-mul}
-use lib.IntN.{ℤ, pos, negsuc, ◌*ℤ◌}
+use lib.IntN.{ℤ, pos, negsuc, nat_abs, ◌+ℤ◌, ◌*ℤ◌}
 use lib.Signed.{◌≤ℤ◌}
-use Rattle.laws.specs.Z.{up, dn, mul-eq, one_side, hyp_le}
+use mir.Syntax.{w64}
+use mir.Val.{SFits, to_z}
+use Rattle.laws.specs.Z.{zs, rd, back, is_nat, is_int, is_bits, is_add, mul-eq, one_side, abs_eq, goal_fits}
+use Rattle.laws.specs.Sides.{sides_of, Below, below_sides}
 use Rattle.balance.specs.Balance.{an_entry}
 
-pub record Small (z : ℤ) : Type 0 where
-  pub high : up z ≤ an_entry
-  pub low : dn z ≤ an_entry
+-- a weight and what a change adds to it
+module _ (n : ℕ) (z : ℤ) (most : n ≤ 4000000) (low : negsuc 3999999 ≤ℤ z) (high : z ≤ℤ pos 4000000) where
+  fits : SFits w64 z
+  fits = omega (arith, zs, one_side z)
 
-weights : (z : ℤ) → negsuc 3999999 ≤ℤ z → z ≤ℤ pos 4000000 → (up z ≤ 4000000) × (dn z ≤ 4000000)
-weights z l h = (omega (arith, hyp_le l, hyp_le h, one_side z), omega (arith, hyp_le l, hyp_le h, one_side z))
+  pub sum_fits : SFits w64 (to_z w64 n +ℤ rd z)
+  sum_fits = omega (arith, zs, back fits, is_add (is_bits n (omega arith)) (is_int (rd z)))
 
-arms : (z : ℤ) → negsuc 1999999 ≤ℤ z → z ≤ℤ pos 2000000 → (up z ≤ 2000000) × (dn z ≤ 2000000)
-arms z l h = (omega (arith, hyp_le l, hyp_le h, one_side z), omega (arith, hyp_le l, hyp_le h, one_side z))
+  pub sum_is : rd (to_z w64 n +ℤ rd z) ≡ pos n +ℤ z
+  sum_is =
+      omega (
+        arith,
+        zs,
+        back sum_fits,
+        back fits,
+        is_add (is_bits n (omega arith)) (is_int (rd z)),
+        is_add (is_nat n) (is_int z),
+      )
 
-pub small : (x y : ℤ) → negsuc 3999999 ≤ℤ x → x ≤ℤ pos 4000000 → negsuc 1999999 ≤ℤ y → y ≤ℤ pos 2000000 → Small (x *ℤ y)
+-- a number that is not negative, without its sign
+pub unsigned : (z : ℤ) → pos 0 ≤ℤ z → pos (nat_abs z) ≡ z
+unsigned z h = omega (arith, zs, abs_eq z, one_side z)
+
+pub small : (x y : ℤ) → negsuc 3999999 ≤ℤ x → x ≤ℤ pos 4000000 → negsuc 1999999 ≤ℤ y → y ≤ℤ pos 2000000 → Below an_entry (sides_of (x *ℤ y))
 small x y l h m k =
-    let a = weights x l h in
-    let b = arms y m k in
-    let uu = mul-le-mul a.0 b.0 in
-    let ud = mul-le-mul a.0 b.1 in
-    let du = mul-le-mul a.1 b.0 in
-    let dd = mul-le-mul a.1 b.1 in
+    let a = below_sides 4000000 x l h (omega arith) (omega arith) in
+    let b = below_sides 2000000 y m k (omega arith) (omega arith) in
+    let uu = mul-le-mul a.up b.up in
+    let ud = mul-le-mul a.up b.down in
+    let du = mul-le-mul a.down b.up in
+    let dd = mul-le-mul a.down b.down in
     record {
-      high = omega (arith, mul-eq x y, one_side (x *ℤ y), uu, dd);
-      low = omega (arith, mul-eq x y, one_side (x *ℤ y), ud, du);
+      up = omega (arith, mul-eq x y, one_side (x *ℤ y), uu, dd);
+      down = omega (arith, mul-eq x y, one_side (x *ℤ y), ud, du);
     }
+
+pub small_fits : (z : ℤ) → Below an_entry (sides_of z) → SFits w64 z
+small_fits z h = goal_fits (omega (arith, h.up, h.down))

@@ -4,14 +4,13 @@
 use Rattle.std.specs.Prelude.{◌≡◌, refl, [], ℕ, zero, suc, ◌+◌, ◌*◌, ◌≤◌}
 use Rattle.std.specs.Borrow.{Bor}
 use Rattle.std.proofs.Common.{add-mul, one-mul, zero-mul, mul-le-mul, add-one, arith, subst}
-use Rattle.laws.specs.declared.Sides.{Sides}
+use Rattle.laws.specs.Sides.{value_of, times_of}
 use Rattle.paper.specs.declared.Sheet.{Sheet}
 use Rattle.paper.specs.Rows.{moment_beside}
 use Rattle.balance.specs.declared.Balance.{Balance}
 use Rattle.balance.specs.Balance.{plain, Bounded}
 use Rattle.aboard.specs.declared.Arms.{Arms}
 use Rattle.aboard.specs.declared.Laden.{Laden}
-use Rattle.aboard.specs.Sides.{value_of, times_of}
 use Rattle.aboard.specs.Aboard.{laid_out, plus, Beside, Room}
 use Rattle.aboard.proofs.Standing.{stands_laid, load_of, beside_none, beside_more}
 use Rattle.aboard.proofs.Arms.beside.Reads as beside
@@ -46,7 +45,7 @@ module _ (t : Terms) (b : Balance) (rear : ℕ) where
 -- the glider with a rear load and no water
 abbrev begun : Arms → Balance → ℕ → Laden
 begun a b rear =
-    plus (laid_out b.total (record { up = b.aft; down = b.fore }) a) (laid_out (2 * rear) (times_of (2 * rear) a.rear) a)
+    plus (laid_out b.total b.moment a) (laid_out (2 * rear) (times_of (2 * rear) a.rear) a)
 
 module _ (t : Terms) (b : Balance) (rear : ℕ) (bounded : Bounded 1024 b) (most : rear ≤ 500000) where
   abbrev arms : Arms
@@ -65,7 +64,7 @@ module _ (t : Terms) (b : Balance) (rear : ℕ) (bounded : Bounded 1024 b) (most
       let seat = arms.rear_is.range in
       record {
         weight = omega (arith, bounded.ranged.most);
-        moment = record { up = omega (arith, bounded.aft, turned arms.rear.up seat.up); down = omega (arith, bounded.fore, turned arms.rear.down seat.down) };
+        moment = record { up = omega (arith, bounded.moment.up, turned arms.rear.up seat.up); down = omega (arith, bounded.moment.down, turned arms.rear.down seat.down) };
         forward = record { up = omega (arith, at_most_lem 2000000 arms.fwd.up fwd.up); down = omega (arith, at_most_lem 2000000 arms.fwd.down fwd.down) };
         safe = record { up = omega (arith, at_most_lem 40000000 arms.safe.up safe.up); down = omega (arith, at_most_lem 40000000 arms.safe.down safe.down) };
       }
@@ -74,9 +73,8 @@ module _ (t : Terms) (b : Balance) (rear : ℕ) (bounded : Bounded 1024 b) (most
   pub every_row_carried : (k : ℕ) → (x : Laden) × Carrying t b rear k x
   every_row_carried zero =
       let a = arms in
-      let empty : Sides = record { up = b.aft; down = b.fore } in
       let lent : Bor Arms = record { ref_ptr = (0, 0); now = a } in
-      (begun a b rear, afresh ([], tt) lent lent (begun a b rear) refl (room-begun, beside_none a.force.sheet (plain b) rear (laid_out b.total empty a) (laid_out (2 * rear) (times_of (2 * rear) a.rear) a) (stands_laid b.total empty a) (rw a.rear_is.value at (load_of rear a.rear a))))
+      (begun a b rear, afresh ([], tt) lent lent (begun a b rear) refl (room-begun, beside_none a.force.sheet (plain b) rear (laid_out b.total b.moment a) (laid_out (2 * rear) (times_of (2 * rear) a.rear) a) (stands_laid b.total b.moment a) (rw a.rear_is.value at (load_of rear a.rear a))))
   every_row_carried (suc k) =
       let c = every_row_carried k in
       let x = c.0 in

@@ -13,19 +13,17 @@
 --   Numbers   number_in, refusal_of                         an answer's number, 0 where it is given, and a number's refusal
 --   Answers   placard_answer, over                                over: bytes written into a buffer, those behind them stay
 -- Assumes nothing.
-use Rattle.std.specs.Prelude.{◌≡◌, true, false, not, ◌&&◌, List, ℕ, ◌≤◌, ◌<◌, eqb, ℤ, length, Result, Ok, Err}
-use Rattle.std.proofs.Common.{sym, ap, ◌∙◌}
+use Rattle.std.specs.Prelude.{◌≡◌, true, false, not, ◌&&◌, List, ℕ, ◌≤◌, ◌<◌, eqb, ℤ, length, Result, Ok, Err, Some}
+use Rattle.std.proofs.Common.{sym, ◌∙◌}
 use Rattle.std.proofs.Math.Option.{some}
 use Rattle.paper.specs.declared.Sheet.{Sheet}
 use Rattle.paper.specs.declared.Seat.{Seat}
-use Rattle.paper.specs.declared.Row.{Row}
-use Rattle.paper.specs.declared.Row.TheVariants.{Range}
 use Rattle.paper.specs.declared.Entry.{Entry}
 use Rattle.paper.specs.declared.Placard.{Placard}
 use Rattle.paper.specs.declared.Refusal.{Refusal}
 use Rattle.paper.specs.Numbers.{refusal_of, number_in}
 use Rattle.paper.specs.Record.{Balance, balance_of, sheet_of, seat_of, ends_of, weighing_stands, sheet_stands}
-use Rattle.paper.specs.Rows.{row_count, rear_of, water_of, row, is_step, keeps, breaks_at, every_arm, some_arm, in_range, is_blank}
+use Rattle.paper.specs.Rows.{Row, row_count, rear_of, water_of, row, is_step, keeps, breaks_at, every_arm, some_arm, in_range, is_blank}
 use Rattle.paper.specs.Placard.{text, text_length, blank_count, line_in, ReadAs}
 use Rattle.paper.specs.Refusals.{accepted, placard_too_long, placard_number}
 use Rattle.paper.specs.Answers.{over, placard_answer}
@@ -102,6 +100,6 @@ demanded numbers es ok answers lent a left n first second =
 -- ---- what follows for the engraver: no range that is read off a given placard begins at 0, whatever the sheet's least load
 
 pub none_from_nought : {numbers : List ℕ} {es : List Entry} {answers lent : List ℕ} {a : Result Placard Refusal} {left : List ℕ} → Demand3 numbers es answers lent a left
-    → EachReading es a left (λ s f b r w rear water x. (lo hi : ℕ) → x ≡ Range lo hi → 1 ≤ lo)
+    → EachReading es a left (λ s f b r w rear water x. (lo hi : ℕ) → x ≡ Some (lo, hi) → 1 ≤ lo)
 none_from_nought {es = es} d s b e w z i h rear water x l lo hi k =
     range_occupied s (ends_of s (seat_of es)) b (rear_of s i) (water_of s i) lo hi (sym (d.only_reading s b e w z i h rear water x l).2 ∙ k)

@@ -1,15 +1,13 @@
 -- What a given placard prints: each line is that of its row and can be read in one way only, so what the laws of rows say holds
 -- of whatever is read off it. Assumes nothing.
-use Rattle.std.specs.Prelude.{◌≡◌, refl, true, false, List, ℕ, ◌≤◌, ◌<◌, get_or}
+use Rattle.std.specs.Prelude.{◌≡◌, refl, true, false, Some, None, List, ℕ, ◌≤◌, ◌<◌, get_or}
 use Rattle.std.proofs.Common.{ap, ◌∙◌, arith}
 use Rattle.std.proofs.Math.Option.{some}
 use Rattle.paper.specs.declared.Sheet.{Sheet}
 use Rattle.paper.specs.declared.Seat.{Seat}
-use Rattle.paper.specs.declared.Row.{Row}
-use Rattle.paper.specs.declared.Row.TheVariants.{Range, Blank}
 use Rattle.paper.specs.declared.Entry.{Entry}
 use Rattle.paper.specs.Record.{Balance, sheet_of}
-use Rattle.paper.specs.Rows.{row, row_count, loads, rear_of, water_of, is_step, good, breaks, in_range, misses, is_blank}
+use Rattle.paper.specs.Rows.{Row, row, row_count, loads, rear_of, water_of, is_step, good, breaks, in_range, misses, is_blank}
 use Rattle.paper.specs.Placard.{text, line_in, RowFits, ReadAs}
 use Rattle.paper.specs.Answers.{over}
 use Rattle.paper.specs.Refusals.{accepted}
@@ -25,8 +23,8 @@ row_fits : (s : Sheet) (f : Seat) (b : Balance) (r w : ℕ) → s.front.most ≤
 row_fits s f b r w h = by (row s f b r w) refl
   where
     by : (x : Row) → row s f b r w ≡ x → RowFits x
-    by (Range lo hi) e = let m = rows.range_most s f b r w lo hi e in (omega (arith, m.0), omega (arith, m.1))
-    by Blank e = tt
+    by (Some (lo, hi)) e = let m = rows.range_most s f b r w lo hi e in (omega (arith, m.0), omega (arith, m.1))
+    by None e = tt
 
 -- the i-th row's loads, by its number
 loads_at : (s : Sheet) (i : ℕ) → i < row_count s → get_or (loads s) i (0, 0) ≡ (rear_at s i, water_at s i)

@@ -2,12 +2,12 @@
 use language::Line;
 use lines::{lent, sum};
 use nodhulika::{
-    nodhulika_centre, nodhulika_change, nodhulika_check, nodhulika_fresh, nodhulika_placard,
-    nodhulika_read, nodhulika_seat, nodhulika_sheet, nodhulika_undo, nodhulika_weigh,
-    nodhulika_weigh_paired,
+    ANSWER, nodhulika_centre, nodhulika_change, nodhulika_check, nodhulika_fresh,
+    nodhulika_placard, nodhulika_read, nodhulika_seat, nodhulika_sheet, nodhulika_undo,
+    nodhulika_weigh, nodhulika_weigh_paired,
 };
 use paper::Entry;
-use script::texts::spelled;
+use script::texts::{decoded, parsed};
 use std::io;
 
 // The longest buffer of a record.
@@ -18,24 +18,9 @@ const FILE: usize = 4096;
 
 const PLACARD: usize = 9400;
 
-// How many bytes the numbers of an answer take.
-const ANSWER: usize = 24;
-
 // An answer behind the others of its case.
 fn answer(rt: &impl Print, n: u64) -> io::Result<()> {
     print!(rt; " {n}")
-}
-
-// What stands in a line behind its first bytes.
-fn behind(line: &[u8], from: usize) -> &[u8] {
-    line.get(from..).unwrap_or(b"")
-}
-
-// The number that stands there, at most `most`; one below 0 is 0.
-fn number(line: &[u8], from: usize, most: usize) -> usize {
-    usize::try_from(numerals::number_of(behind(line, from)))
-        .unwrap_or(0)
-        .min(most)
 }
 
 // A weighing, plain or paired, a data sheet, a change or a seat entry.
@@ -89,10 +74,10 @@ fn centre(rt: &impl Print, record: &[u8]) -> io::Result<()> {
 
 // `Placard N`, which ends a case: the number, bytes, rows and blank rows where it is 0, and the sum of the whole placard's
 // buffer.
-fn placard(rt: &impl Print, line: &[u8], record: &[u8]) -> io::Result<()> {
+fn placard(rt: &impl Print, size: usize, record: &[u8]) -> io::Result<()> {
     let mut plate = [0xAAu8; PLACARD];
     let mut counts = [0u8; ANSWER];
-    let out = lent(&mut plate, number(line, 8, PLACARD));
+    let out = lent(&mut plate, size);
     let n = nodhulika_placard(record, out, &mut counts);
     answer(rt, n)?;
     if n == 0 {
@@ -104,14 +89,14 @@ fn placard(rt: &impl Print, line: &[u8], record: &[u8]) -> io::Result<()> {
 }
 
 // `Read HEX`.
-fn read(line: &[u8], record: &mut [u8]) -> u64 {
+fn read(digits: &str, record: &mut [u8]) -> io::Result<u64> {
     let mut file = [0u8; FILE];
-    nodhulika_read(record, spelled(behind(line, 5), &mut file))
+    Ok(nodhulika_read(record, decoded(digits, &mut file)?))
 }
 
 // A call, as a line of a logbook.
-fn call(rt: &impl Print, line: &[u8], record: &mut [u8]) -> io::Result<()> {
-    match language::read_line(line) {
+fn call(rt: &impl Print, line: &str, record: &mut [u8]) -> io::Result<()> {
+    match language::read_line(line.as_bytes()) {
         Line::Entry(e) => answer(rt, enter(record, e)),
         Line::Undo => answer(rt, nodhulika_undo(record)),
         Line::Passed => print!(rt; " passed"),
@@ -135,27 +120,28 @@ impl Case {
     }
 
     // `Fresh N`: a new case, in a buffer whose every byte is AA.
-    fn fresh(&mut self, rt: &impl Print, line: &[u8]) -> io::Result<()> {
-        self.room = number(line, 6, ROOM);
+    fn fresh(&mut self, rt: &impl Print, room: usize) -> io::Result<()> {
+        self.room = room;
         self.buffer = [0xAA; ROOM];
         let n = nodhulika_fresh(lent(&mut self.buffer, self.room));
         print!(rt; "{n}")
     }
 
-    // The action of a line by its first letters. `Lent HEX` puts these bytes at the front of the buffer, as they are.
-    pub fn act(&mut self, rt: &impl Print, line: &[u8]) -> io::Result<()> {
+    // The action of a line by its first word. `Lent HEX` puts these bytes at the front of the buffer, as they are.
+    pub fn act(&mut self, rt: &impl Print, line: &str) -> io::Result<()> {
         let record = lent(&mut self.buffer, self.room);
-        match line {
-            [] | [_] => Ok(()),
-            [b'F', ..] => self.fresh(rt, line),
-            [b'R', ..] => answer(rt, read(line, record)),
-            [b'L', ..] => {
-                spelled(behind(line, 5), record);
+        let (word, taken) = line.split_once(' ').unwrap_or((line, ""));
+        match word {
+            "" => Ok(()),
+            "Fresh" => self.fresh(rt, parsed(taken)?),
+            "Read" => answer(rt, read(taken, record)?),
+            "Lent" => {
+                decoded(taken, record)?;
                 Ok(())
             }
-            [b'P', ..] => placard(rt, line, record),
-            [b'C', b'h', ..] => check(rt, record),
-            [b'C', ..] => centre(rt, record),
+            "Placard" => placard(rt, parsed(taken)?, record),
+            "Check" => check(rt, record),
+            "Centre" => centre(rt, record),
             _ => call(rt, line, record),
         }
     }

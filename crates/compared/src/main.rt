@@ -6,6 +6,7 @@ mod actions;
 
 use actions::Case;
 use lines::each_block;
+use script::texts::text;
 use std::io;
 
 // The cases come in blocks of this many bytes, each of whole cases.
@@ -16,7 +17,7 @@ const BLOCKS: usize = 32;
 // The lines in turn, over one buffer of which each case lends a part.
 fn each(rt: &impl Print, block: &[u8]) -> io::Result<()> {
     let mut case = Case::new();
-    for line in block.split(|x| *x == b'\n') {
+    for line in text(block)?.lines() {
         case.act(rt, line)?;
     }
     Ok(())

@@ -34,8 +34,8 @@ fn part(c: i64) -> Change {
 fn filled() -> Result<Record, Refusal> {
     let mut r = Record::fresh();
     r.weigh(weighing(38_000))?;
-    for i in 1..ENTRIES {
-        r.change(part(if i % 2 == 0 { -4_500 } else { 4_500 }))?;
+    for c in [4_500, -4_500].iter().cycle().take(ENTRIES - 1) {
+        r.change(part(*c))?;
     }
     Ok(r)
 }
@@ -51,8 +51,8 @@ fn accepted(r: Record, calls: usize) -> usize {
 }
 
 fn main(rt: HostRuntime) -> io::Result<()> {
-    let mut input = [0u8; 4096];
-    let calls = lines::read_full(&mut rt.reader(), &mut input)?;
+    let mut room = [0u8; 4096];
+    let calls = lines::read_full(&mut rt.reader(), &mut room)?.len();
     let n = filled().map_or(0, |r| accepted(r, calls));
     println!(rt; "{n} accepted")
 }

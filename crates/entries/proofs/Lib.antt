@@ -1,3 +1,3 @@
--- What the proofs share: the rows of the table, and what is found at a place.
+-- What the proofs share: the rows of the table, and what is taken off the front of some bytes.
 pub mod Rows
-pub mod Places
+pub mod Taking

@@ -1,2 +1,2 @@
--- What reading an entry at a place finds.
-pub mod Walking
+-- What taking an entry off the front of some bytes finds.
+pub mod Taking

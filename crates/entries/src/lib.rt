@@ -1,37 +1,37 @@
 #![tactic(auto)]
 
-// One entry's bytes: written at a place of a buffer, and read at a place of a slice.
+// One entry's bytes: written at the front of a slice, and taken off it.
 ghost use Rattle.std.specs.Prelude.{◌≡◌, ◌∷◌, ◌+◌, ◌≤◌, length};
 ghost use Rattle.laws.specs.Written.{written};
 ghost use Rattle.paper.specs.Numbers.{code_of};
-ghost use Rattle.paper.specs.File.{values_of, fields_bytes, entry_bytes};
+ghost use Rattle.paper.specs.File.{values_of, fields_bytes, entry_bytes, take_entry};
 ghost use Rattle.format.specs.Rows.{fields_at};
-ghost use Rattle.entries.specs.Walking.{fields_walk, walk_at};
+ghost use Rattle.entries.specs.Taking.{Takes, take_kind};
 
 use kinds::Stored;
 use paper::{Change, Entry, Kind, Paired, Seat, Sheet, Weighing};
 
-// A kind, and behind it the fields of an entry. The answer is the place behind them.
-fn put_stored<T: Stored>(out: &mut [u8], at: usize, kind: Kind, x: T) -> usize
-    requires { at + 1 + T.LENGTH ≤ length out.old }
-    ensures { (result ≡ at + 1 + T.LENGTH) × (out.new ≡ written out.old at (code_of kind ∷ fields_bytes (fields_at T.kind) (values_of (T.entry x)))) }
+// A kind, and behind it the fields of an entry, at the front of a slice. The answer is how many bytes they take.
+fn put_stored<T: Stored>(out: &mut [u8], kind: Kind, x: T) -> usize
+    requires { 1 + T.LENGTH ≤ length out.old }
+    ensures { (result ≡ 1 + T.LENGTH) × (out.new ≡ written out.old 0 (code_of kind ∷ fields_bytes (fields_at T.kind) (values_of (T.entry x)))) }
 {
-    out[at] = kind as u8;
-    x.put(out, at + 1);
-    at + 1 + T::LENGTH
+    out[0] = kind as u8;
+    x.put(&mut out[1..]);
+    1 + T::LENGTH
 }
 
-// An entry: its kind, and its fields. The answer is the place behind it.
-pub fn put_entry(out: &mut [u8], at: usize, e: Entry) -> usize
-    requires { at + length (entry_bytes e) ≤ length out.old }
-    ensures { (result ≡ at + length (entry_bytes e)) × (out.new ≡ written out.old at (entry_bytes e)) }
+// An entry, at the front of a slice: its kind, and its fields. The answer is how many bytes it takes.
+pub fn put_entry(out: &mut [u8], e: Entry) -> usize
+    requires { length (entry_bytes e) ≤ length out.old }
+    ensures { (result ≡ length (entry_bytes e)) × (out.new ≡ written out.old 0 (entry_bytes e)) }
 {
     match e {
-        Entry::Weighing(w) => put_stored(out, at, Kind::Weighing, w),
-        Entry::Sheet(s) => put_stored(out, at, Kind::Sheet, s),
-        Entry::Change(x) => put_stored(out, at, Kind::Change, x),
-        Entry::Paired(x) => put_stored(out, at, Kind::Paired, x),
-        Entry::Seat(f) => put_stored(out, at, Kind::Seat, f),
+        Entry::Weighing(w) => put_stored(out, Kind::Weighing, w),
+        Entry::Sheet(s) => put_stored(out, Kind::Sheet, s),
+        Entry::Change(x) => put_stored(out, Kind::Change, x),
+        Entry::Paired(x) => put_stored(out, Kind::Paired, x),
+        Entry::Seat(f) => put_stored(out, Kind::Seat, f),
     }
 }
 
@@ -48,33 +48,33 @@ pub fn length_of(e: Entry) -> usize
     }
 }
 
-// What stands behind a kind: its fields, where there are bytes enough.
-fn entry_from<T: Stored>(s: &[u8], from: usize) -> Option<(Entry, usize)>
-    requires { from ≤ length s.now }
-    ensures { result ≡ fields_walk T.kind s.now from }
+// The fields of a kind of entry, taken off the front of some bytes; none where there are too few.
+#[inline(always)]
+fn take_stored<T: Stored>(s: &mut &[u8]) -> Option<Entry>
+    ensures { Takes (take_kind T.kind s.old.now) result s.new.now }
 {
-    if s.len() - from < T::LENGTH {
+    let fields = *s;
+    if fields.len() < T::LENGTH {
         return None;
     }
-    Some((T::entry_at(s, from), from + T::LENGTH))
+    *s = &fields[T::LENGTH..];
+    Some(T::entry_from(fields))
 }
 
-// The entry at a place, and the place behind it; none where nothing there is one.
-pub fn next_entry(s: &[u8], at: usize) -> Option<(Entry, usize)>
-    ensures { result ≡ walk_at s.now at }
+// An entry, taken off the front of some bytes; none where they begin with no entry.
+#[inline(always)]
+pub fn take_entry(s: &mut &[u8]) -> Option<Entry>
+    ensures { Takes (take_entry s.old.now) result s.new.now }
 {
-    if s.len() <= at {
-        return None;
-    }
-    let Ok(kind) = Kind::try_from(s[at]) else {
+    let [code, fields @ ..] = *s else {
         return None;
     };
-    let from = at + 1;
-    match kind {
-        Kind::Weighing => entry_from::<Weighing>(s, from),
-        Kind::Sheet => entry_from::<Sheet>(s, from),
-        Kind::Change => entry_from::<Change>(s, from),
-        Kind::Paired => entry_from::<Paired>(s, from),
-        Kind::Seat => entry_from::<Seat>(s, from),
+    *s = fields;
+    match Kind::try_from(*code).ok()? {
+        Kind::Weighing => take_stored::<Weighing>(s),
+        Kind::Sheet => take_stored::<Sheet>(s),
+        Kind::Change => take_stored::<Change>(s),
+        Kind::Paired => take_stored::<Paired>(s),
+        Kind::Seat => take_stored::<Seat>(s),
     }
 }

@@ -19,7 +19,7 @@ use Rattle.format.specs.Files.{file_length}
 use Rattle.judge.proofs.Accepted.{accepted-more, at_most_64}
 use Rattle.stored.specs.Found.{bytes_in}
 use Rattle.stored.proofs.Parts.{file_size}
-use Rattle.stored.proofs.Walks.{length_in}
+use Rattle.stored.proofs.Parts.{length_in}
 use Rattle.file.specs.Longest.{IsLongest}
 
 -- a sheet that is accepted wherever there is room

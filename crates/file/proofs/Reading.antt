@@ -1,69 +1,58 @@
--- Reading: the entries passed so far are in the record, and what stands is theirs; one entry more, or one that shows that there
--- is no file; and what the call answers. Assumes nothing.
+-- Reading: the entries passed so far are in the record; one entry more; and what the call answers. Assumes nothing.
 use mathlib.Core.Path.{◌≡◌, refl, sym, ap, ◌∙◌}
-use mathlib.Core.Bool.{true}
 use mathlib.Core.List.{List, [], ◌∷◌, ◌++◌}
 use mathlib.Core.Option.{Option, none, some}
 use Prim.Native.Nat.{ℕ, ◌+◌, ◌<◌}
-use lib.ListN.{drop, set}
-use lib.Pow.{are_bytes}
+use native.Mathlib.Omega.{arith}
+use lib.ListN.{length}
+use Rattle.laws.specs.Lists.{length_more}
 use Rattle.paper.specs.declared.Entry.{Entry}
 use Rattle.paper.specs.Record.{is_none}
-use Rattle.paper.specs.Refusals.{entry_number, file_of, ◌when◌, first_number, reading_number}
+use Rattle.paper.specs.Refusals.{file_of, ◌when◌, first_number, reading_number}
 use Rattle.paper.specs.Journal.{read, call_number, accepted_call, entries_or}
-use Rattle.judge.specs.declared.Standing.{Standing}
-use Rattle.judge.specs.Standing.{Stands, stands_in, plainly, judged}
+use Rattle.judge.proofs.Accepted.{at_most_64}
 use Rattle.record.specs.declared.Record.{Record}
-use Rattle.record.specs.declared.Replayed.{Replayed}
-use Rattle.record.specs.Held.{record_of, held_by, kept_or, answered, ReplayedAs}
-use Rattle.record.proofs.Turns.{kept_added}
-use Rattle.record.proofs.Replays.{number_is, gone_on}
+use Rattle.record.specs.Held.{record_of, held_by, kept_or, answered, put}
+use Rattle.record.proofs.Lists.{put_is}
 use Rattle.record.proofs.Calls.{Answer}
 use Rattle.file.specs.Found.{record_in}
 use Rattle.std.specs.Prelude.{Ok, Err, Some, None}
 use Rattle.std.specs.Prelude.{Option as RustOption}
 use Rattle.paper.specs.declared.Refusal.TheVariants.{NoFile}
 use Rattle.paper.specs.Numbers.{refusal_of}
-use Rattle.stored.specs.Kinds.{entries_to, walk_to}
-use Rattle.stored.proofs.Reading.{Passed, none_passed, refused_entry, one_passed}
+use Rattle.judge.specs.declared.Standing.{Standing}
+use Rattle.reader.specs.declared.Reader.{Reader}
+use Rattle.stored.specs.Walks.{Walked}
 
 -- ---- a record read back
 
--- the entries that the walk has passed, of kinds up to k, are in it
-pub record ReadTo (s : List ℕ) (k count i at : ℕ) (standing : Standing) (log : Record) : Type 0 where
+-- the entries that the walk has passed are in it, i of them, and n are to come
+pub record ReadTo (xs : List ℕ) (i n : ℕ) (reader : Reader) (standing : Standing) (log : Record) : Type 0 where
   pub entries : List Entry
-  pub passed : Passed s k count i at entries
-  pub held : ReplayedAs entries (record { log = log; standing = standing })
-  pub many : log.count ≡ i
+  pub walked : Walked xs entries n reader standing
+  pub held : log ≡ record_of entries
+  pub many : length entries ≡ i
 
-pub begun : (s : List ℕ) (k count : ℕ) (log : Record) (standing : Standing) → log ≡ record_of [] → plainly standing ≡ stands_in [] → ReadTo s k count 0 6 standing log
-unfolding record_of
-begun s k count log standing e f =
-    record { entries = []; passed = none_passed s k count; held = record { log = e; stands = f }; many = ap (λ (l : Record). l.count) e }
+pub begun : (xs : List ℕ) (n : ℕ) (reader : Reader) (standing : Standing) (log : Record) → Walked xs [] n reader standing → log ≡ record_of [] → ReadTo xs 0 n reader standing log
+begun xs n reader standing log w e =
+    record { entries = []; walked = w; held = e; many = refl }
 
--- the next entry, as it was judged against what stands
-module _ (s : List ℕ) (k count i at : ℕ) (standing : Standing) (log : Record) (x : ReadTo s k count i at standing log) (b : are_bytes s ≡ true) (h : i < count)
-    (e : Entry) (place : ℕ) (w : walk_to k s at ≡ Some (e, place)) (p : Stands) (n : ℕ) (j : ◌≡◌ {A = ℕ × Stands} (n, p) (judged (plainly standing) e)) where
-  abbrev now : Replayed
-  now = record { log = log; standing = standing }
+-- one entry more is in the next slot
+module _ (xs : List ℕ) (i n : ℕ) (es : List Entry) (e : Entry) (reader : Reader) (standing : Standing) (many : length es ≡ i) (w : Walked xs (es ++ e ∷ []) n reader standing) where
+  room : length es < 64
+  room = omega (arith, length_more es e, at_most_64 (es ++ e ∷ []) w.fine)
 
-  number : n ≡ entry_number x.entries e
-  number = number_is x.entries now x.held e p n j
+  pub slot_left : (log : Record) → log ≡ record_of es → log.count < 64
+  unfolding record_of
+  slot_left log h = rw h room
 
-  -- it is one that its call refuses
-  pub refused : 0 < n → entries_to k count (drop 6 s) ≡ none
-  refused z = refused_entry s k count i at x.entries x.passed b h e place w (rw number at z)
-
-  -- or it is in the next slot
-  pub one_more : n ≡ 0 → (next : Standing) → plainly next ≡ p → ReadTo s k count (i + 1) place next (record { slots = set log.slots i e; count = i + 1 })
-  one_more z next q =
-      let es = x.entries in
-      let fine = sym number ∙ z in
+  pub one_more : (log more : Record) → log ≡ record_of es → more ≡ put log e → ReadTo xs (i + 1) n reader standing more
+  one_more log more h m =
       record {
         entries = es ++ e ∷ [];
-        passed = one_passed s k count i at es x.passed b h e place w fine;
-        held = rw (kept_added es e fine, x.many) at (gone_on es now x.held e p n j next q z);
-        many = refl;
+        walked = w;
+        held = m ∙ ap (λ (r : Record). put r e) h ∙ put_is es e room;
+        many = length_more es e ∙ ap (λ (k : ℕ). k + 1) many;
       }
 
 -- ---- what reading answers

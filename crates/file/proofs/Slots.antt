@@ -1,17 +1,19 @@
 -- The bytes of the first entries of a list: one entry more, and how long they are. Assumes nothing.
-use mathlib.Core.Path.{◌≡◌}
+use mathlib.Core.Path.{◌≡◌, refl}
 use mathlib.Core.List.{List, [], ◌∷◌, ◌++◌, map}
-use Prim.Native.Nat.{ℕ, ◌+◌, ◌*◌, ◌≤◌, ◌<◌}
+use Prim.Native.Nat.{ℕ, ◌+◌, ◌≤◌, ◌<◌}
 use native.Mathlib.Omega.{arith}
 use lib.ListN.{length, get_or, take, length-append}
-use lib.Seq.{length-take-le}
+use Rattle.std.specs.List.{sum_by}
 use Rattle.std.proofs.lemmas.List.{take_more}
+use Rattle.std.proofs.lemmas.List.Sums.{sum_by-cons}
 use Rattle.laws.specs.Lists.{map-append}
 use Rattle.laws.specs.Written.{written, written-more}
 use Rattle.paper.specs.declared.Entry.{Entry}
 use Rattle.paper.specs.File.{entry_bytes}
+use Rattle.paper.specs.Rows.{joined}
 use Rattle.paper.proofs.Lists.{joined-last, joined-part}
-use Rattle.format.specs.Entries.{entry_length, entries_length}
+use Rattle.format.specs.Entries.{entries_length}
 use Rattle.stored.specs.Found.{bytes_in}
 
 -- of the first i
@@ -36,9 +38,6 @@ module _ (es : List Entry) (i : ℕ) (d : Entry) where
   pub counted : (n k : ℕ) → i < length es → n ≡ 6 + length (bytes_to es i) → k ≡ length (entry_bytes (get_or es i d)) → n + k ≡ 6 + length (bytes_to es (i + 1))
   counted n k h e f = omega (arith, length_more h)
 
-  pub one_entry : (k : ℕ) → k ≡ length (entry_bytes (get_or es i d)) → k ≤ 61
-  one_entry k f = omega (arith, entry_length (get_or es i d))
-
   -- an entry behind the first i is within what the first c take
   pub within : (c n m : ℕ) → i < c → c ≤ length es → n ≡ 6 + length (bytes_to es i) → 6 + length (bytes_to es c) ≤ m → n + length (entry_bytes (get_or es i d)) ≤ m
   within c n m h k e f = omega (arith, length_more (omega arith), bytes-part es (i + 1) c (omega arith))
@@ -48,5 +47,14 @@ pub put-more : (s : List ℕ) (es : List Entry) (i : ℕ) (d : Entry) (out last 
 put-more s es i d out last at h k a o l =
     rw (l, o, a, bytes-more es i d h) (written-more s 6 (bytes_to es i) (entry_bytes (get_or es i d)) k)
 
-pub bytes_most : (es : List Entry) (i : ℕ) → i ≤ length es → length (bytes_to es i) ≤ 61 * i
-bytes_most es i h = omega (arith, entries_length (take i es), length-take-le i es h)
+-- ---- how long they are in all
+
+-- as they are added up
+pub summed : (es : List Entry) → sum_by (λ e. length (entry_bytes e)) es ≡ length (bytes_in es)
+unfolding joined
+summed [] = refl
+summed (e ∷ es) =
+    omega (arith, sum_by-cons (λ e. length (entry_bytes e)) e es, summed es, length-append (entry_bytes e) (bytes_in es))
+
+pub summed_most : (es : List Entry) → length es ≤ 64 → sum_by (λ e. length (entry_bytes e)) es ≤ 3904
+summed_most es h = omega (arith, summed es, entries_length es)

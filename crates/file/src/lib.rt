@@ -12,9 +12,10 @@ ghost use Rattle.record.specs.Held.{held_by, answered};
 ghost use Rattle.file.specs.Found.{record_in};
 ghost use Rattle.file.specs.Longest.{IsLongest};
 
-use header::HEADER;
+use header::Header;
 use judge::Standing;
 use paper::{Entry, Refusal};
+use reader::Reader;
 use record::Record;
 
 // The longest file, that of 64 sheets.
@@ -32,11 +33,7 @@ fn length_of(list: &[Entry]) -> usize
     requires { length list.now ≤ 64 }
     ensures { result ≡ length (file_bytes list.now) }
 {
-    let mut length = HEADER;
-    for e in list {
-        length += entries::length_of(*e);
-    }
-    length
+    Header::LENGTH + list.iter().map(|e| entries::length_of(*e)).sum::<usize>()
 }
 
 // The entries, one behind the other.
@@ -44,9 +41,9 @@ fn put_entries(out: &mut [u8], list: &[Entry])
     requires { length (file_bytes list.now) ≤ length out.old }
     ensures { out.new ≡ written out.old 6 (joined (map entry_bytes list.now)) }
 {
-    let mut at = HEADER;
+    let mut at = Header::LENGTH;
     for e in list {
-        at = entries::put_entry(out, at, *e);
+        at += entries::put_entry(&mut out[at..], *e);
     }
 }
 
@@ -55,7 +52,7 @@ pub fn write(r: &Record, out: &mut [u8]) -> Result<usize, Refusal>
     ensures { (result, out.new) ≡ written_answer (held_by r.now) out.old }
 {
     let now = record::replay(r);
-    let list = &now.log.slots[..now.log.count];
+    let list = now.log.entries();
     let length = length_of(list);
     if out.len() < length {
         return Err(Refusal::ShortBuffer);
@@ -69,21 +66,14 @@ pub fn write(r: &Record, out: &mut [u8]) -> Result<usize, Refusal>
 fn found(s: &[u8]) -> Option<Record>
     ensures { result ≡ record_in (file_of s.now) }
 {
-    if !header::is_headed(s) {
-        return None;
-    }
-    let kinds = header::last_kind(s[4]);
-    let mut log = Record::fresh();
+    let (header, rest) = header::take_header(s)?;
+    let mut entries = Reader::new(rest, header.version.last_kind());
     let mut standing = Standing::new();
-    let mut at = HEADER;
-    for i in 0..s[5] as usize {
-        let (entry, place) = stored::entry_to(s, at, kinds)?;
-        standing.add(entry).ok()?;
-        log.slots[i] = entry;
-        log.count = i + 1;
-        at = place;
+    let mut log = Record::fresh();
+    for _ in 0..header.count {
+        log.push(stored::pass(&mut entries, &mut standing)?);
     }
-    if at < s.len() {
+    if 0 < entries.left() {
         return None;
     }
     Some(log)

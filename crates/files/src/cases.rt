@@ -1,41 +1,40 @@
-// A line of output for each line of cases.
+// A line of output for each case.
 use crate::{trial, written};
-use lines::number;
+use paper::Refusal;
 use record::Record;
-use script::calls::{head_and_calls, played};
-use script::texts::digits;
+use script::texts::{parsed, parted};
 use std::io;
 
-// What a line asks, by its letter and what stands behind that up to a space.
-fn done(rt: &impl Print, log: &mut Record, asked: &[u8], calls: &[u8]) -> io::Result<()> {
-    let last = match asked {
-        [b't', spelling @ ..] => return trial::tried(rt, spelling),
-        [b'r', spelling @ ..] => trial::read(log, spelling),
-        _ => played(log, calls),
-    };
-    match asked {
-        [b'r' | b'c', ..] => trial::kept(rt, number(&last), log),
-        [b'w', ..] => written::shown(rt, log),
-        [_, size @ ..] => written::into(rt, log, digits(size) as usize),
-        [] => written::into(rt, log, 0),
+// What a case asks, by its letter and what stands behind that.
+fn done(
+    rt: &impl Print,
+    log: &mut Record,
+    asked: &str,
+    last: Result<(), Refusal>,
+) -> io::Result<()> {
+    let (letter, taken) = asked.split_at_checked(1).ok_or(io::ErrorKind::InvalidData)?;
+    match letter {
+        "t" => trial::tried(rt, taken),
+        "r" => {
+            let answer = trial::read(log, taken)?;
+            trial::kept(rt, answer, log)
+        }
+        "c" => trial::kept(rt, last, log),
+        "w" => written::shown(rt, log),
+        "i" => written::into(rt, log, parsed(taken)?),
+        _ => Err(io::ErrorKind::InvalidData.into()),
     }
 }
 
-// The label of a line, with its colon.
-fn label(line: &[u8]) -> Option<&[u8]> {
-    let space = line.iter().position(|x| *x == b' ')?;
-    let colon = line.iter().position(|x| *x == b':')?;
-    line.get(space + 1..=colon)
-}
-
-// A line with its line feed, which changes the record.
-pub fn act(rt: &impl Print, log: &mut Record, line: &[u8]) -> io::Result<()> {
-    if matches!(line, b"\n") {
-        return Ok(());
-    }
-    let (_, calls) = head_and_calls(line);
-    let asked = line.split(|x| *x == b' ').next().unwrap_or(line);
-    rt.write_all(label(line).unwrap_or(line))?;
-    done(rt, log, asked, calls)?;
-    rt.write_all(b"\n")
+// A case's head, what it asks and its label, the record that its calls leave, and what the last of them answers.
+pub fn tried(
+    rt: &impl Print,
+    log: &mut Record,
+    head: &str,
+    last: Result<(), Refusal>,
+) -> io::Result<()> {
+    let (asked, label) = parted(head, ' ')?;
+    print!(rt; "{label}:")?;
+    done(rt, log, asked, last)?;
+    println!(rt)
 }

@@ -20,7 +20,7 @@ mod trial;
 mod written;
 
 use lines::each_block;
-use script::calls::each_line;
+use script::calls::each_case;
 use std::io;
 
 // The cases come in blocks of this many bytes, filled up with line feeds. Each begins with a fresh record.
@@ -31,6 +31,8 @@ const BLOCKS: usize = 25;
 fn main(rt: HostRuntime) -> io::Result<()> {
     let mut buffer = [0u8; BLOCK];
     each_block(&mut rt.reader(), &mut buffer, BLOCKS, |block| {
-        each_line(block, |log, line| cases::act(&rt, log, line))
+        each_case(block, |log, head, last| {
+            cases::tried(&rt, log, head, last)
+        })
     })
 }

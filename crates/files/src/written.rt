@@ -1,5 +1,5 @@
 // A record's file, written.
-use lines::{Centre, first, lent, number, sum, unwritten};
+use lines::{Centre, lent, number, sum, unwritten, written};
 use record::Record;
 use std::io;
 
@@ -11,12 +11,15 @@ const BEHIND: usize = 16;
 // The centre of gravity, and the file's number, length and bytes in digits of sixteen.
 pub fn shown(rt: &impl Print, log: &Record) -> io::Result<()> {
     let mut out = [0u8; file::LONGEST];
-    let answer = file::write(log, &mut out);
-    let centre = Centre(log.centre_of_gravity());
-    let refused = number(&answer);
-    let length = answer.unwrap_or(0);
-    print!(rt; " {centre} {refused} {length} ")?;
-    for x in first(&out, length) {
+    let answer = written(file::write, log, &mut out);
+    let s = answer.unwrap_or(b"");
+    print!(rt;
+        " {} {} {} ",
+        Centre(log.centre_of_gravity()),
+        number(&answer),
+        s.len()
+    )?;
+    for x in s {
         print!(rt; "{x:02x}")?;
     }
     Ok(())
@@ -24,11 +27,17 @@ pub fn shown(rt: &impl Print, log: &Record) -> io::Result<()> {
 
 // Writing into n bytes of AA: number and length, the sum of the bytes, and how many behind them stayed.
 pub fn into(rt: &impl Print, log: &Record, n: usize) -> io::Result<()> {
-    let mut out = [0xAAu8; ROOM + BEHIND];
-    let answer = file::write(log, lent(&mut out, n));
-    let refused = number(&answer);
-    let length = answer.unwrap_or(0);
-    let written = sum(first(&out, length));
-    let left = unwritten(out.get(length..n.saturating_add(BEHIND)).unwrap_or(&out));
-    print!(rt; " {refused} {length} {written} {left}")
+    let mut room = [0xAAu8; ROOM + BEHIND];
+    let looked_at = lent(&mut room, n.saturating_add(BEHIND));
+    let answer = file::write(log, lent(looked_at, n));
+    let (s, behind) = looked_at
+        .split_at_checked(answer.unwrap_or(0))
+        .ok_or(io::ErrorKind::InvalidData)?;
+    print!(rt;
+        " {} {} {} {}",
+        number(&answer),
+        s.len(),
+        sum(s),
+        unwritten(behind)
+    )
 }

@@ -1,8 +1,9 @@
 -- What the calls answer that change nothing, each definition computed on what the buffer holds. Assumes nothing.
-use mathlib.Core.Path.{◌≡◌, refl}
+use mathlib.Core.Path.{◌≡◌, refl, ap, ◌∙◌}
 use mathlib.Core.List.{List}
 use mathlib.Core.Option.{Option, none, some}
-use Rattle.std.specs.Prelude.{Result, Err, Some, None}
+use Rattle.std.specs.Prelude.{Result, Ok, Err, Some, None}
+use Rattle.std.specs.Borrow.{Bor}
 use Rattle.std.specs.Prelude.{Option as RustOption}
 use Rattle.std.specs.Option.{ok_or}
 use Prim.Native.Nat.{ℕ}
@@ -17,7 +18,16 @@ use Rattle.paper.specs.Refusals.{first_number, reading_number}
 use Rattle.paper.specs.Answers.{centre_answer, placard_answer}
 use Rattle.stored.specs.declared.Contents.{Contents}
 use Rattle.stored.specs.Found.{Finds}
-use Rattle.front.specs.Front.{held_in, Holds, check_number, centre_for, placard_for}
+use Rattle.front.specs.Front.{file_in, held_in, FrontOf, Holds, check_number, centre_for, placard_for}
+
+-- the front, where there is one, and where there is none
+pub front_there : (s : List ℕ) (o : RustOption (Bor (List ℕ))) (x : Bor (List ℕ)) → FrontOf s o → Ok x ≡ ok_or o refusal.NoFile → x.now ≡ file_in s
+front_there s None x f e = cc
+front_there s (Some y) x f e = let same : x ≡ y = cc in ap (λ (b : Bor (List ℕ)). b.now) same ∙ f
+
+pub no_front : (s : List ℕ) (o : RustOption (Bor (List ℕ))) (r : Refusal) → FrontOf s o → Err r ≡ ok_or o refusal.NoFile → (held_in s ≡ none) × (r ≡ refusal.NoFile)
+no_front s None r f e = (f, cc)
+no_front s (Some y) r f e = cc
 
 -- what is found, or 12 where it is nothing
 pub told : (o : Option (List Entry)) (x : RustOption Contents) (r : Result Contents Refusal) → Finds o x → r ≡ ok_or x refusal.NoFile → Holds o r

@@ -1,20 +1,28 @@
 -- A buffer that holds a list: the list is one that calls give, and the buffer begins with its file in some version. Assumes nothing.
 use mathlib.Core.Path.{◌≡◌, sym, ap, ◌∙◌}
-use mathlib.Core.Bool.{true}
+use mathlib.Core.Bool.{true, false}
 use mathlib.Core.List.{List, ◌++◌}
-use mathlib.Core.Option.{some}
-use Prim.Native.Nat.{ℕ, ◌+◌, ◌≤◌}
+use mathlib.Core.Option.{none, some}
+use mathlib.Core.Logic.{inl, inr}
+use Rattle.std.specs.Prelude.{Option as RustOption, Some, None}
+use Rattle.std.specs.Borrow.{Bor}
+use Rattle.std.specs.Slice.{IsGetRangeResult}
+use Prim.Native.Nat.{ℕ, ◌+◌, ◌-◌, ◌≤◌, ◌<◌}
 use native.Mathlib.Decide.{dec_le}
 use native.Mathlib.Omega.{arith}
 use lib.ListN.{length, take, drop, take-append-drop}
+use lib.Pow.{are_bytes}
 use lib.Seq.{take_all, length-take-le}
 use Rattle.paper.specs.declared.Entry.{Entry}
 use Rattle.paper.specs.File.{number_of, file_as, version, file_bytes}
-use Rattle.paper.specs.Refusals.{accepted}
+use Rattle.paper.specs.Refusals.{accepted, file_of}
 use Rattle.format.specs.Files.{same_length, file_accepted}
+use Rattle.header.specs.Header.{headed}
+use Rattle.header.proofs.Judging.{too_few, wrong_length}
 use Rattle.stored.specs.Found.{bytes_in}
 use Rattle.stored.proofs.Parts.{entries_behind}
-use Rattle.front.specs.Front.{file_in, held_in}
+use Rattle.stored.proofs.Headers.{bad_header}
+use Rattle.front.specs.Front.{file_in, held_in, FrontOf}
 
 -- the first of a list, as many as were taken
 taken_again : (k : ℕ) (s : List ℕ) → take (length (take k s)) s ≡ take k s
@@ -32,13 +40,26 @@ taken_most k s =
     ]
 
 -- the front, where the buffer has fewer bytes than its length says, and where it has them
-pub all_of_it : (s : List ℕ) → length s ≤ 4 + number_of (take 4 s) → s ≡ file_in s
-unfolding file_in
-all_of_it s h = sym (take_all (4 + number_of (take 4 s)) s h)
+short : (s : List ℕ) → length s < 4 + number_of (take 4 s) → headed s ≡ false
+short s h =
+    elim (dec_le 6 (length s)) as (λ d. headed s ≡ false) [
+      | yes k ↦ wrong_length s (λ e. omega arith)
+      | no k ↦ too_few s (omega arith)
+    ]
 
-pub front_of : (s : List ℕ) (n : ℕ) → n ≡ number_of (take 4 s) → take (n + 4) s ≡ file_in s
+pub no_front : (s : List ℕ) → are_bytes s ≡ true → length s < 4 + number_of (take 4 s) → held_in s ≡ none
+unfolding held_in file_in
+no_front s b h =
+    ap file_of (take_all (4 + number_of (take 4 s)) s (omega arith)) ∙ bad_header s b (short s h)
+
+-- as the code has it
+pub front_got : (s : List ℕ) (n : ℕ) (r : RustOption (Bor (List ℕ))) → are_bytes s ≡ true → n ≡ number_of (take 4 s) → IsGetRangeResult s 0 (n + 4) r → FrontOf s r
 unfolding file_in
-front_of s n e = let f : n + 4 ≡ 4 + number_of (take 4 s) = omega arith in ap (λ (k : ℕ). take k s) f
+front_got s n None b e h =
+    no_front s b (elim h.0 as (λ _. length s < 4 + number_of (take 4 s)) [ inl l ↦ absurd (omega arith) | inr l ↦ omega arith ])
+front_got s n (Some x) b e h =
+    let k : n + 4 - 0 ≡ 4 + number_of (take 4 s) = omega arith in
+    h.0.2 ∙ ap (λ (j : ℕ). take j s) k
 
 module _ (s : List ℕ) (es : List Entry) (h : held_in s ≡ some es) where
   pub held_accepted : accepted es ≡ true

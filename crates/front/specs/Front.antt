@@ -1,6 +1,8 @@
 -- A record lent as its file at the front of a buffer: the list that the buffer holds, and what the calls answer that ask for its
 -- centre of gravity and its placard. The numbers are the paper's, behind 12 where the buffer holds no record.
-use Rattle.std.specs.Prelude.{◌≡◌, List, ℕ, ◌+◌, take, Result, Ok, Err, Some}
+use Rattle.std.specs.Prelude.{◌≡◌, List, ℕ, ◌+◌, take, Result, Ok, Err, Some, None}
+use Rattle.std.specs.Prelude.{Option as RustOption}
+use Rattle.std.specs.Borrow.{Bor}
 use Rattle.std.proofs.Math.Option.{Option, none, some}
 use Rattle.paper.specs.declared.Entry.{Entry}
 use Rattle.paper.specs.declared.CentreOfGravity.{CentreOfGravity}
@@ -20,6 +22,11 @@ file_in xs = take (4 + number_of (take 4 xs)) xs
 -- the list that a buffer holds, none where no file stands at its front; what stands behind the file is free
 unfoldable pub held_in : List ℕ → Option (List Entry)
 held_in xs = file_of (file_in xs)
+
+-- the front of a buffer, or none where it is no file for want of bytes
+abbrev pub FrontOf : List ℕ → RustOption (Bor (List ℕ)) → Type 0
+FrontOf xs None = held_in xs ≡ none
+FrontOf xs (Some s) = s.now ≡ file_in xs
 
 -- what is found in the buffer, where o is that list
 abbrev pub Holds : Option (List Entry) → Result Contents Refusal → Type 0

@@ -4,30 +4,26 @@
 // stands behind the file is free.
 ghost use Rattle.std.specs.Prelude.{◌≡◌};
 ghost use Rattle.paper.specs.Numbers.{number_in};
-ghost use Rattle.front.specs.Front.{file_in, held_in, Holds, check_number, centre_for, placard_for};
+ghost use Rattle.front.specs.Front.{held_in, FrontOf, Holds, check_number, centre_for, placard_for};
 
 use paper::{CentreOfGravity, Placard, Refusal};
 use stored::Contents;
 
-// The bytes that the file at the front takes, by the length that it begins with; all of them where that is too long.
-fn front(buffer: &[u8]) -> &[u8]
-    ensures { result.now ≡ file_in buffer.now }
+// The bytes that the file at the front takes, by the length that it begins with; none where there are fewer.
+fn front(buffer: &[u8]) -> Option<&[u8]>
+    ensures { FrontOf buffer.now result }
 {
-    if buffer.len() < 4 {
-        return buffer;
-    }
-    let behind = words::number_at(buffer, 0, 4) as usize;
-    if buffer.len() - 4 < behind {
-        return buffer;
-    }
-    &buffer[..behind + 4]
+    let length = buffer.first_chunk::<4>()?;
+    let behind = words::number_of(*length) as usize;
+    buffer.get(..behind + 4)
 }
 
 // What the buffer holds: 12 where it holds no record.
 pub fn held(buffer: &[u8]) -> Result<Contents, Refusal>
     ensures { Holds (held_in buffer.now) result }
 {
-    stored::survey(front(buffer)).ok_or(Refusal::NoFile)
+    let file = front(buffer).ok_or(Refusal::NoFile)?;
+    stored::survey(file).ok_or(Refusal::NoFile)
 }
 
 // Whether the buffer holds a record.

@@ -1,8 +1,8 @@
--- The lines in the buffer: the i-th goes into the part behind those before it, so that the rows beside a rear load stand
--- behind those of the rear loads before it. Assumes nothing.
-use mathlib.Core.Path.{◌≡◌, refl, sym, ap, ◌∙◌}
+-- The lines in the buffer: each goes behind those before it, and the rows beside a rear load behind those of the rear loads
+-- before it. Assumes nothing.
+use mathlib.Core.Path.{◌≡◌, sym, ap}
 use mathlib.Core.List.{List}
-use Prim.Native.Nat.{ℕ, ◌+◌, ◌*◌, ◌≤◌, ◌<◌}
+use Prim.Native.Nat.{ℕ, suc, ◌+◌, ◌*◌, ◌≤◌, ◌<◌}
 use mathlib.Core.Logic.{⊎_elim}
 use native.Mathlib.Nat.{mul-le-mul_right, add-mul, one-mul, eq-or-lt_of_le}
 use native.Mathlib.Numerals.{add-one}
@@ -11,26 +11,18 @@ use lib.Arith.{digits_div, digits_mod}
 use lib.ListN.{length, set}
 use lib.Seq.{get_or-set_same, get_or-set_other}
 use Rattle.laws.specs.Division.{multiple_most}
-use Rattle.laws.specs.Written.{written, written_follows}
+use Rattle.laws.specs.Written.{written, written_none, written_follows}
 use Rattle.paper.specs.declared.Sheet.{Sheet}
 use Rattle.paper.specs.declared.Seat.{Seat}
 use Rattle.paper.specs.Record.{Balance}
-use Rattle.paper.specs.Rows.{row, row_count}
+use Rattle.sheet.proofs.Accepted.{accepted-sheet}
+use Rattle.seat.specs.declared.InForce.{InForce}
+use Rattle.paper.specs.Rows.{row, row_count, below, joined}
 use Rattle.paper.specs.Placard.{kilograms, line}
 use Rattle.line.specs.Word.{word}
-use Rattle.group.specs.Numbered.{rears, waters, rear_at, water_at, row_at, line_at, blanks, lines_to, blanks_to}
+use Rattle.group.specs.Numbered.{rears, waters, rear_at, water_at, row_at, line_at, blanks, lines_to, lines_from, blanks_to}
 use Rattle.group.specs.Shared.{FieldsTo}
-use Rattle.group.proofs.Rows.{length-lines, lines_more, blank_more}
-
--- ---- one row more
-
-module _ (s : Sheet) (f : Seat) (b : Balance) where
-  one_put : (xs out last : List ℕ) (i : ℕ) → 36 * i ≤ length xs → out ≡ written xs 0 (lines_to s f b i) → last ≡ written out (36 * i) (line_at s f b i) → last ≡ written xs 0 (lines_to s f b (i + 1))
-  one_put xs out last i h o l =
-      rw (l, o, add-one i, lines_more s f b i) (written_follows xs (lines_to s f b i) (line_at s f b i) (36 * i) (length-lines s f b i) h)
-
-  one_blank : (n k i : ℕ) → n ≡ blanks_to s f b i → k ≡ blanks (row_at s f b i) → n + k ≡ blanks_to s f b (i + 1)
-  one_blank n k i e g = rw (e, g, add-one i) (sym (blank_more (row_at s f b) i))
+use Rattle.group.proofs.Rows.{length-lines, length-lines_from, lines_from_more, lines_on, blank_more}
 
 -- ---- the rows beside one rear load
 
@@ -63,30 +55,35 @@ module _ (s : Sheet) (n : ℕ) (e : n ≡ waters s) where
 pub rear_in : (s : Sheet) (j : ℕ) → j < rears s → j * s.rear.step ≤ s.rear.most
 rear_in s j h = multiple_most s.rear.most s.rear.step j h
 
--- the first k rows from a place on, of which some are blank: as they stand in a buffer behind the lines before them
-pub record GroupTo (s : Sheet) (f : Seat) (b : Balance) (first k blank : ℕ) (from out : List ℕ) : Type 0 where
-  pub blanks : blank + blanks_to s f b first ≡ blanks_to s f b (first + k)
-  pub lines : (lent : List ℕ) → length lent ≡ length from → from ≡ written lent 0 (lines_to s f b first) → out ≡ written lent 0 (lines_to s f b (first + k))
+-- the waters of a sheet in force are few
+pub waters_few : (x : InForce) (n : ℕ) → n ≡ waters x.sheet → n ≤ 256
+waters_few x n e =
+    omega (arith, group_room x.sheet n e 0 (omega arith), (accepted-sheet x.sheet x.accepted).steps.rows)
 
-pub group_begun : (s : Sheet) (f : Seat) (b : Balance) (first : ℕ) (out : List ℕ) → GroupTo s f b first 0 0 out out
-group_begun s f b first out =
-    let e : first + 0 ≡ first = omega arith in
-    record { blanks = omega (arith, ap (blanks_to s f b) e); lines = λ lent n e'. e' ∙ ap (λ (i : ℕ). written lent 0 (lines_to s f b i)) (sym e) }
+-- the first k rows of a group, the first being the i-th of all: as they stand in a buffer, and how many are blank
+pub record GroupTo (s : Sheet) (f : Seat) (b : Balance) (i k blank : ℕ) (from out : List ℕ) : Type 0 where
+  pub blanks : blank + blanks_to s f b i ≡ blanks_to s f b (i + k)
+  pub lines : out ≡ written from 0 (lines_from s f b i k)
+
+pub group_begun : (s : Sheet) (f : Seat) (b : Balance) (i : ℕ) (out : List ℕ) → GroupTo s f b i 0 0 out out
+unfolding below joined
+group_begun s f b i out =
+    let e : i + 0 ≡ i = omega arith in
+    record { blanks = omega (arith, ap (blanks_to s f b) e); lines = sym (written_none out 0) }
 
 -- one row more
-pub group_more : (s : Sheet) (f : Seat) (b : Balance) (first k blank one : ℕ) (from out last : List ℕ) → GroupTo s f b first k blank from out → 36 * (first + k) ≤ length from → one ≡ blanks (row_at s f b (first + k)) → last ≡ written out (36 * (first + k)) (line_at s f b (first + k)) → GroupTo s f b first (k + 1) (blank + one) from last
-group_more s f b first k blank one from out last g h o l =
-    let i = first + k in
-    let e : i + 1 ≡ first + (k + 1) = omega arith in
+pub group_more : (s : Sheet) (f : Seat) (b : Balance) (i k blank one : ℕ) (from out last : List ℕ) → GroupTo s f b i k blank from out → 36 * k ≤ length from → one ≡ blanks (row_at s f b (i + k)) → last ≡ written out (36 * k) (line_at s f b (i + k)) → GroupTo s f b i (k + 1) (blank + one) from last
+group_more s f b i k blank one from out last g h o l =
+    let e : i + (k + 1) ≡ suc (i + k) = omega arith in
     record {
-      blanks = let n = one_blank s f b (blanks_to s f b i) one i refl o in omega (arith, g.blanks, n ∙ ap (blanks_to s f b) e);
-      lines = λ lent n e'. one_put s f b lent out last i (omega arith) (g.lines lent n e') l ∙ ap (λ (m : ℕ). written lent 0 (lines_to s f b m)) e;
+      blanks = rw (e, blank_more (row_at s f b) (i + k)) (omega (arith, g.blanks, o));
+      lines = rw (l, g.lines, add-one k, lines_from_more s f b i k) (written_follows from (lines_from s f b i k) (line_at s f b (i + k)) (36 * k) (length-lines_from s f b i k) h);
     }
 
--- and where there are no more
-pub group_done : (s : Sheet) (f : Seat) (b : Balance) (first k blank i n : ℕ) (from out : List ℕ) → first ≡ i → k ≡ n → GroupTo s f b first k blank from out
-    → (blank + blanks_to s f b i ≡ blanks_to s f b (i + n)) × ((lent : List ℕ) → length lent ≡ length from → from ≡ written lent 0 (lines_to s f b i) → out ≡ written lent 0 (lines_to s f b (i + n)))
-group_done s f b first k blank i n from out d e g = rw (← d, ← e) (g.blanks, g.lines)
+-- and behind the groups before it
+pub group_put : (s : Sheet) (f : Seat) (b : Balance) (i n : ℕ) (lent out last : List ℕ) → 36 * i ≤ length lent → out ≡ written lent 0 (lines_to s f b i) → last ≡ written out (36 * i) (lines_from s f b i n) → last ≡ written lent 0 (lines_to s f b (i + n))
+group_put s f b i n lent out last h o l =
+    rw (l, o, lines_on s f b i n) (written_follows lent (lines_to s f b i) (lines_from s f b i n) (36 * i) (length-lines s f b i) h)
 
 -- ---- the fields of the waters: one more of them
 

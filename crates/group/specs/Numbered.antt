@@ -2,9 +2,8 @@
 use Rattle.std.specs.Prelude.{ℕ, ◌+◌, ◌*◌, ◌/◌, ◌%◌, cond, List, map}
 use Rattle.paper.specs.declared.Sheet.{Sheet}
 use Rattle.paper.specs.declared.Seat.{Seat}
-use Rattle.paper.specs.declared.Row.{Row}
 use Rattle.paper.specs.Record.{Balance}
-use Rattle.paper.specs.Rows.{row, is_blank, below, joined}
+use Rattle.paper.specs.Rows.{Row, row, is_blank, below, joined}
 use Rattle.paper.specs.Placard.{line, blank_of}
 
 -- how many loads of water there are beside each rear load
@@ -32,9 +31,14 @@ line_at s f b i = line (rear_at s i) (water_at s i) (row_at s f b i)
 abbrev pub blanks : Row → ℕ
 blanks x = cond (is_blank x) 1 0
 
--- the lines and the blank ones of the first i rows
+-- the lines of the first i rows
 abbrev pub lines_to : Sheet → Seat → Balance → ℕ → List ℕ
 lines_to s f b i = joined (map (line_at s f b) (below i))
 
+-- the lines of the next k
+abbrev pub lines_from : Sheet → Seat → Balance → ℕ → ℕ → List ℕ
+lines_from s f b i k = joined (map (λ (j : ℕ). line_at s f b (i + j)) (below k))
+
+-- how many of the first i are blank
 abbrev pub blanks_to : Sheet → Seat → Balance → ℕ → ℕ
 blanks_to s f b i = blank_of (map (row_at s f b) (below i))

@@ -1,19 +1,18 @@
 #![tactic(auto)]
 
 // The rows of a placard that stand beside one rear load, as lines in a lent buffer. What is aboard is carried from row to row.
-ghost use Rattle.std.specs.Prelude.{◌≡◌, List, ℕ, ◌+◌, ◌*◌, ◌≤◌, ◌<◌, length};
+ghost use Rattle.std.specs.Prelude.{◌≡◌, ◌+◌, ◌*◌, ◌≤◌, ◌<◌, length};
 ghost use Rattle.laws.specs.Written.{written};
-ghost use Rattle.paper.specs.Rows.{row_count};
 ghost use Rattle.paper.specs.Placard.{line_length};
 ghost use Rattle.balance.specs.Balance.{plain, Bounded};
 ghost use Rattle.aboard.specs.Aboard.{LoadOf, Share};
-ghost use Rattle.group.specs.Numbered.{rears, waters, blanks, lines_to, blanks_to};
+ghost use Rattle.group.specs.Numbered.{rears, waters, lines_from, blanks_to};
 ghost use Rattle.group.specs.Shared.{FieldsOf};
 
 use aboard::{Arms, Laden};
 use balance::Balance;
 use limits::Front;
-use paper::{MOST_ROWS, Row, Weight};
+use paper::{MOST_ROWS, Weight};
 use seat::InForce;
 
 // How many bytes a line has.
@@ -29,16 +28,6 @@ pub struct Terms {
     pub share: Laden,
     pub ghost share_is: { LoadOf front.arms.force.sheet front.arms.force.sheet.water.step front.arms.force.sheet.water.arm share },
     pub ghost share_in: { Share share },
-}
-
-// What a row counts for among the blank ones.
-fn blank(x: Row) -> usize
-    ensures { (result ≡ blanks x) × (result ≤ 1) }
-{
-    match x {
-        Row::Range(_, _) => 0,
-        Row::Blank => 1,
-    }
 }
 
 // The fields of the waters, each made once for all rear loads.
@@ -66,12 +55,12 @@ impl Terms {
         }
     }
 
-    // The lines of the rows beside the j-th rear load. What is aboard starts afresh with it, and goes on by the share of a step of
-    // water; the share behind the last row is added and not used. A line is put by its place: of a buffer that is lent in chunks
-    // nothing is known afterwards.
+    // Puts the lines of the rows beside the j-th rear load, and answers how many of them are blank. What is aboard starts afresh
+    // with the rear load, and goes on by the share of a step of water; the share behind the last row is added and not used. A
+    // line is put by its place: of a buffer that is lent in chunks nothing is known afterwards.
     pub fn put_group(&self, b: Balance, j: usize, fields: &[u64], out: &mut [u8]) -> usize
-        requires { let s = self.now.front.arms.force.sheet in Bounded 1024 b × (j < rears s) × FieldsOf s fields.now × (line_length * row_count s ≤ length out.old) }
-        ensures { let f = self.now.front.arms.force in let n = waters f.sheet in (result ≤ n) × (result + blanks_to f.sheet f.seat (plain b) (j * n) ≡ blanks_to f.sheet f.seat (plain b) (j * n + n)) × (length out.new ≡ length out.old) × ((lent : List ℕ) → length lent ≡ length out.old → out.old ≡ written lent 0 (lines_to f.sheet f.seat (plain b) (j * n)) → out.new ≡ written lent 0 (lines_to f.sheet f.seat (plain b) (j * n + n))) }
+        requires { let s = self.now.front.arms.force.sheet in Bounded 1024 b × (j < rears s) × FieldsOf s fields.now × (line_length * waters s ≤ length out.old) }
+        ensures { let f = self.now.front.arms.force in let n = waters f.sheet in (result ≤ n) × (result + blanks_to f.sheet f.seat (plain b) (j * n) ≡ blanks_to f.sheet f.seat (plain b) (j * n + n)) × (out.new ≡ written out.old 0 (lines_from f.sheet f.seat (plain b) (j * n) n)) }
     {
         let rear = j as u64 * self.front.arms.force.sheet.rear.step;
         let mut x = self.front.arms.beside(b, rear);
@@ -79,12 +68,11 @@ impl Terms {
             .front
             .with_none(&x, b.nonlifting + Weight::HALVES * rear);
         let field = line::field(rear);
-        let first = j * fields.len();
         let mut none = 0;
         for (k, &water) in fields.iter().enumerate() {
             let y = row::row(&self.front, span, &x);
-            line::put_line(&mut out[LINE * (first + k)..], field, water, y);
-            none += blank(y);
+            line::put_line(&mut out[LINE * k..], field, water, y);
+            none += usize::from(y.is_none());
             x = x.carried(self.share);
         }
         none

@@ -5,15 +5,15 @@
 -- of `file::read` promises of one call (its arguments, its answer, the arguments as it leaves them), and so with the others. What
 -- the words mean is in crates/paper/specs, and for the logbook and the library in crates/language/specs, crates/book/specs,
 -- crates/front/specs and crates/lent/specs; docs/ARCHITECTURE.md leads from the paper to each of them. Assumes nothing.
-use Rattle.std.specs.Prelude.{◌≡◌, Bool, true, not, ◌&&◌, List, ℕ, ◌*◌, ◌≤◌, ◌<◌, ℤ, length, get_or, set, take, Result, Ok}
+use Rattle.std.specs.Prelude.{◌≡◌, Bool, true, not, ◌&&◌, List, ℕ, ◌*◌, ◌≤◌, ◌<◌, ℤ, length, get_or, set, take, Result, Ok, Some}
 use Rattle.std.proofs.Math.Option.{some}
 use Rattle.std.specs.Int.Signed.{le_z}
 use Rattle.std.specs.Borrow.{Bor, MutBor}
 use Rattle.laws.specs.Lists.{Each}
 use Rattle.laws.specs.Splits.{split}
+use Rattle.laws.specs.Sides.{value_of}
 use Rattle.paper.specs.declared.Entry.{Entry}
 use Rattle.paper.specs.declared.Placard.{Placard}
-use Rattle.paper.specs.declared.Row.TheVariants.{Range}
 use Rattle.paper.specs.declared.Sheet.{Sheet}
 use Rattle.paper.specs.declared.Seat.{Seat}
 use Rattle.paper.specs.declared.Refusal.{Refusal}
@@ -33,7 +33,6 @@ use Rattle.balance.specs.Balance.{plain, Bounded}
 use Rattle.planes.specs.Plane.{kept_at}
 use Rattle.planes.proofs.Arms as arms
 use Rattle.aboard.specs.declared.Laden.{Laden}
-use Rattle.aboard.specs.Sides.{value_of}
 use Rattle.group.specs.declared.Terms.{Terms}
 use Rattle.record.specs.declared.Record.{Record}
 use Rattle.record.proofs.Calls.{Answer}
@@ -82,7 +81,7 @@ every_list_runs = on-record.every_list_runs
 
 -- No range that is read off such a placard, of a record or of the library to link, begins at 0, whatever the sheet's least load.
 pub none_from_nought : {numbers : List ℕ} {es : List Entry} {answers lent : List ℕ} {a : Result Placard Refusal} {left : List ℕ} → Demand3 numbers es answers lent a left
-    → EachReading es a left (λ s f b r w rear water x. (lo hi : ℕ) → x ≡ Range lo hi → 1 ≤ lo)
+    → EachReading es a left (λ s f b r w rear water x. (lo hi : ℕ) → x ≡ Some (lo, hi) → 1 ≤ lo)
 none_from_nought = claim.none_from_nought
 
 -- A list of calls leaves the record of its journal, whatever was refused on the way.

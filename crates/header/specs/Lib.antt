@@ -1,2 +1,3 @@
--- The header of a file.
+-- The header of a file, and its versions.
+pub mod Versions
 pub mod Header

@@ -4,18 +4,63 @@
 ghost use Rattle.std.specs.Prelude.{◌≡◌, ◌≤◌, length};
 ghost use Rattle.laws.specs.Written.{written};
 ghost use Rattle.paper.specs.Numbers.{code_of};
-ghost use Rattle.paper.specs.File.{is_version, last_kind};
-ghost use Rattle.header.specs.Header.{header_of, headed};
+ghost use Rattle.paper.specs.File.{last_kind};
+ghost use Rattle.header.specs.Versions.{number_of, Decodes};
+ghost use Rattle.header.specs.Header.{header_of, TakesHeader};
 
 use paper::Kind;
 
-// The version that is written, and the first one, which is still read.
-pub const VERSION: u8 = 2;
+// The versions of a file.
+#[derive(Clone, Copy, PartialEq, Eq)]
+pub enum Version {
+    First = 1,
+    Second = 2,
+}
 
-const FIRST: u8 = 1;
+impl Version {
+    // The version that is written. The first one is still read.
+    pub const WRITTEN: Version = Version::Second;
 
-// The length, the version and the count of entries come first.
-pub const HEADER: usize = 6;
+    // The last kind of entry that it has: paired weighings and seats came with the second.
+    pub fn last_kind(self) -> Kind
+        ensures { code_of result ≡ last_kind (number_of self) }
+    {
+        match self {
+            Version::First => Kind::Change,
+            Version::Second => Kind::Seat,
+        }
+    }
+}
+
+// A number that no version has.
+#[derive(Clone, Copy, PartialEq, Eq)]
+pub struct UnknownVersion(pub u8);
+
+impl TryFrom<u8> for Version {
+    type Error = UnknownVersion;
+
+    ghost try_from_gives = { Decodes };
+
+    fn try_from(number: u8) -> Result<Self, UnknownVersion> {
+        match number {
+            1 => Ok(Version::First),
+            2 => Ok(Version::Second),
+            _ => Err(UnknownVersion(number)),
+        }
+    }
+}
+
+// What a file says in front of its entries, beside its length.
+#[derive(Clone, Copy)]
+pub struct Header {
+    pub version: Version,
+    pub count: usize,
+}
+
+impl Header {
+    // The length, the version and the count of entries come first.
+    pub const LENGTH: usize = 6;
+}
 
 // The header: the length of all that follows it, the version, and the count of entries.
 pub fn put_header(out: &mut [u8], behind: usize, count: usize)
@@ -23,34 +68,24 @@ pub fn put_header(out: &mut [u8], behind: usize, count: usize)
     ensures { out.new ≡ written out.old 0 (header_of behind count) }
 {
     words::put_number(out, 0, 4, behind as u64);
-    out[4] = VERSION;
+    out[4] = Version::WRITTEN as u8;
     words::put_number(out, 5, 1, count as u64);
 }
 
-// Whether there is such a version.
-fn is_version(v: u8) -> bool
-    ensures { result ≡ is_version v }
+// The header that some bytes begin with, and what stands behind it; none where the length or the version is not right.
+pub fn take_header(s: &[u8]) -> Option<(Header, &[u8])>
+    ensures { TakesHeader s.now result }
 {
-    v == FIRST || v == VERSION
-}
-
-// The last kind of entry that a version has: paired weighings and seats came with the second.
-pub fn last_kind(v: u8) -> Kind
-    ensures { code_of result ≡ last_kind v }
-{
-    if v == FIRST {
-        return Kind::Change;
+    let (length, body) = s.split_first_chunk::<4>()?;
+    let [version, count, entries @ ..] = body else {
+        return None;
+    };
+    if words::number_of(*length) as usize != body.len() {
+        return None;
     }
-    Kind::Seat
-}
-
-// Whether the length and the version are right.
-pub fn is_headed(s: &[u8]) -> bool
-    ensures { result ≡ headed s.now }
-{
-    if s.len() < HEADER {
-        return false;
-    }
-    let behind = s.len() - 4;
-    words::number_at(s, 0, 4) as usize == behind && is_version(s[4])
+    let header = Header {
+        version: Version::try_from(*version).ok()?,
+        count: usize::from(*count),
+    };
+    Some((header, entries))
 }

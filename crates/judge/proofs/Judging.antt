@@ -21,14 +21,11 @@ use Rattle.paper.specs.Refusals.{change_faults, seat_faults, bad_ends, first_num
 use Rattle.paper.specs.Numbers.{number_of}
 use Rattle.paper.proofs.Numbers.{not_0}
 use Rattle.balance.specs.declared.Balance.{Balance}
-use Rattle.balance.specs.Balance.{plain, Bounded}
+use Rattle.balance.specs.Balance.{plain}
 use Rattle.seat.specs.declared.InForce.{InForce}
 use Rattle.seat.specs.InForce.{as_pair, found, after as force_after}
 use Rattle.judge.specs.declared.Standing.{Standing}
 use Rattle.judge.specs.Standing.{Stands, balance_in, plainly, weighed_with, forced_with, faults_of, number_at, balance_after, after, judged}
-
-pub grown : (k m : ℕ) (b : Balance) → k ≤ m → Bounded k b → Bounded m b
-grown k m b h t = record { ranged = t.ranged; aft = omega arith; fore = omega arith }
 
 -- a change before a weighing
 pub unweighed : (x : Change) → 7 ≡ first_number (change_faults none x)

@@ -7,11 +7,12 @@ use lib.Signed.{mag}
 use mir.Syntax.{w64}
 use mir.Val.{hbits, to_z, of_z}
 use mir.Facts.{to_z-of_z}
-use Rattle.paper.specs.File.{signed_at, plain_at}
+use Rattle.paper.specs.File.{Field, signed_at, plain_at}
+use Rattle.kinds.specs.Values.{Taken}
 
--- a value that was put in a register, by what it is
-pub given : {x y : ℤ} → mag x < 2 ^ hbits w64 → x ≡ y → to_z w64 (of_z w64 x) ≡ y
-given h e = to_z-of_z {w = w64} (record { sfits = h }) ∙ e
+-- a field that was taken
+pub taken : {f : Field} {xs ys : List ℕ} {x : ℤ} → mag x < 2 ^ hbits w64 → Taken f xs x ys → Taken f xs (to_z w64 (of_z w64 x)) ys
+taken h t = record { value = to_z-of_z {w = w64} (record { sfits = h }) ∙ t.value; rest = t.rest; shorter = t.shorter }
 
 module _ (v : List ℤ) (i : ℕ) where
   pub held : mag (signed_at v i) < 2 ^ hbits w64 → to_z w64 (of_z w64 (signed_at v i)) ≡ signed_at v i

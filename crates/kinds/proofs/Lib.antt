@@ -1,4 +1,4 @@
--- What the proofs share: the values of a list as they are held, those of bytes by their places, and fields put one behind the other.
+-- What the proofs share: the values of a list as they are held, and fields one behind the other, read and put.
 pub mod Held
-pub mod Placed
+pub mod Read
 pub mod Put

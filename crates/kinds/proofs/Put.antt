@@ -1,44 +1,54 @@
--- Fields put one behind the other: by recursion on them. Assumes nothing.
-use Rattle.std.proofs.Common.{◌≡◌, ℕ, ◌+◌, ◌^◌, ◌≤◌, ◌<◌, ℤ, List, [], ◌∷◌, length, refl, sym, ap, ◌∙◌, arith, length-append}
+-- Fields put one behind the other, each into the part of a buffer that is its own. Assumes nothing.
+use Rattle.std.proofs.Common.{◌≡◌, ℕ, ◌+◌, ◌^◌, ◌≤◌, ◌<◌, ℤ, List, [], ◌∷◌, ◌++◌, length, take, drop, sym, ap, ◌∙◌, arith, length-append, length-drop, append-nil, append_assoc}
 use mir.Syntax.{w64}
 use mir.Val.{hbits, to_z, of_z}
 use mir.Facts.{to_z-of_z}
 use lib.Signed.{mag}
-use Rattle.laws.specs.Written.{written, written_none, length-written, written-more}
+use lib.Seq.{length-take-le, drop-drop}
+use borrow.Rule.Slice.PartMut.{put_mid}
+use Rattle.std.proofs.Math.Seq.{drop-length}
+use Rattle.laws.specs.Written.{written, written_none, written_first, length-written, written-more}
 use Rattle.paper.specs.File.{Field, bytes_of, complement, field_bytes, fields_bytes}
 use Rattle.format.specs.Numbers.{length-bytes}
 
--- these fields from a place on, each behind the one before it
-unfoldable pub put_all : List Field → List ℤ → List ℕ → ℕ → List ℕ
-put_all [] vs s at = s
-put_all (f ∷ fs) [] s at = s
-put_all (f ∷ fs) (v ∷ vs) s at = put_all fs vs (written s at (field_bytes f v)) (at + f.width)
+-- what is written over the whole
+pub whole-written : (s xs : List ℕ) → length xs ≡ length s → written s 0 xs ≡ xs
+whole-written s xs e = written_first s xs ∙ ap (λ (k : ℕ). xs ++ drop k s) e ∙ ap (λ (t : List ℕ). xs ++ t) (drop-length s) ∙ append-nil xs
 
-pub all_put : (fs : List Field) (vs : List ℤ) (s : List ℕ) (at : ℕ) → at + length (fields_bytes fs vs) ≤ length s → put_all fs vs s at ≡ written s at (fields_bytes fs vs)
-unfolding put_all fields_bytes field_bytes
-all_put [] vs s at h = sym (written_none s at)
-all_put (f ∷ fs) [] s at h = sym (written_none s at)
-all_put (f ∷ fs) (v ∷ vs) s at h =
+-- what is written over a part is written into the whole
+pub middle-written : (s last xs : List ℕ) (at k : ℕ) → length xs ≡ k → last ≡ xs → take at s ++ (last ++ drop k (drop at s)) ≡ written s at xs
+unfolding written
+middle-written s last xs at k e m = rw (m, ← e, drop-drop (length xs) at s, append_assoc (take at s) xs (drop (at + length xs) s))
+
+-- the fields end as they are put, where there is room for them
+unfoldable pub Put : List Field → List ℤ → List ℕ → ℕ → List ℕ → Type 0
+Put fs vs s at end = at + length (fields_bytes fs vs) ≤ length s → end ≡ written s at (fields_bytes fs vs)
+
+pub all_put : (fs : List Field) (vs : List ℤ) (s : List ℕ) (at : ℕ) (end : List ℕ) → Put fs vs s at end → at + length (fields_bytes fs vs) ≤ length s → end ≡ written s at (fields_bytes fs vs)
+unfolding Put
+all_put fs vs s at end p = p
+
+-- none is left
+pub none_put : (s : List ℕ) (at : ℕ) → Put [] [] s at s
+unfolding Put fields_bytes
+none_put s at h = sym (written_none s at)
+
+-- a field in its part, and those behind it
+pub then_put : (f : Field) (fs : List Field) (v : ℤ) (vs : List ℤ) (s : List ℕ) (at : ℕ) (last end : List ℕ) → last ≡ bytes_of (length (take f.width (drop at s))) (complement f.width v) → Put fs vs (put_mid at f.width s last) (at + f.width) end → Put (f ∷ fs) (v ∷ vs) s at end
+unfolding Put fields_bytes field_bytes
+then_put f fs v vs s at last end m q h =
     let xs = field_bytes f v in
     let ys = fields_bytes fs vs in
     let k : length xs ≡ f.width = length-bytes f.width (complement f.width v) in
     let both = length-append xs ys in
+    let room : length (take f.width (drop at s)) ≡ f.width = length-take-le f.width (drop at s) (omega (arith, length-drop at s, both, k)) in
+    let put = middle-written s last xs at f.width k (m ∙ ap (λ n. bytes_of n (complement f.width v)) room) in
     let kept = length-written s at xs (omega (arith, both)) in
-    all_put fs vs (written s at xs) (at + f.width) (omega (arith, kept, k, both))
+    q (omega (arith, ap length put, kept, both, k))
+    ∙ ap (λ t. written t (at + f.width) ys) put
     ∙ ap (λ n. written (written s at xs) (at + n) ys) (sym k)
     ∙ written-more s at xs ys (omega (arith, both))
 
--- a field, and those behind it
-pub then_put : (f : Field) (fs : List Field) (v : ℤ) (vs : List ℤ) (s : List ℕ) (at : ℕ) (out : List ℕ) (to : ℕ) (end : List ℕ) → (to ≡ at + f.width) × (out ≡ written s at (field_bytes f v)) → end ≡ put_all fs vs out to → end ≡ put_all (f ∷ fs) (v ∷ vs) s at
-unfolding put_all
-then_put f fs v vs s at out to end h q =
-    q ∙ ap (λ t. put_all fs vs t to) h.1 ∙ ap (put_all fs vs (written s at (field_bytes f v))) h.0
-
 -- a signed one, as it is held
-pub signed_put : (x : ℤ) (s : List ℕ) (at : ℕ) (out : List ℕ) (to : ℕ) → mag x < 2 ^ hbits w64 → (to ≡ at + 4) × (out ≡ written s at (bytes_of 4 (complement 4 (to_z w64 (of_z w64 x))))) → (to ≡ at + 4) × (out ≡ written s at (bytes_of 4 (complement 4 x)))
-signed_put x s at out to h p = rw (to_z-of_z {w = w64} {z = x} (record { sfits = h })) at p
-
--- none is left
-pub none_put : (s : List ℕ) (at : ℕ) → s ≡ put_all [] [] s at
-unfolding put_all
-none_put s at = refl
+pub signed_put : (x : ℤ) (n : ℕ) (out : List ℕ) → mag x < 2 ^ hbits w64 → out ≡ bytes_of n (complement 4 (to_z w64 (of_z w64 x))) → out ≡ bytes_of n (complement 4 x)
+signed_put x n out h p = rw (to_z-of_z {w = w64} {z = x} (record { sfits = h })) at p

@@ -1,17 +1,17 @@
 #![tactic(auto)]
 
 // Each kind of entry as the file has it: put as the bytes of its fields, and read of them, or of its values in their order.
-ghost use Rattle.std.specs.Prelude.{◌≡◌, ℕ, ◌+◌, ◌≤◌, pos, nat_abs, length, take, drop};
+ghost use Rattle.std.specs.Prelude.{◌≡◌, ℕ, ◌≤◌, pos, nat_abs, length};
 ghost use Rattle.laws.specs.Written.{written};
 ghost use Rattle.paper.specs.declared.Entry.{Entry};
 ghost use Rattle.paper.specs.declared.Entry.TheVariants as entry;
-ghost use Rattle.paper.specs.File.{bytes_of, number_of, complement, signed_word, field_value, values_of, fields_bytes, entry_of};
+ghost use Rattle.paper.specs.File.{byte, word, signed_word, bytes_of, complement, values_of, fields_bytes, entry_of};
 ghost use Rattle.format.specs.Fields.{widths, total};
 ghost use Rattle.format.specs.Rows.{fields_at};
-ghost use Rattle.kinds.specs.Values.{values_from, total_weighing, total_sheet, total_change, total_paired, total_seat};
+ghost use Rattle.kinds.specs.Values.{values_from, TakenNumber, Taken, TakenStation, total_weighing, total_sheet, total_change, total_paired, total_seat};
 
 use paper::{Change, Entry, Paired, Seat, Sheet, Station, Weighing};
-use words::{number_at, put_number, signed, word_of};
+use words::{number_of, put_number, signed, word_of};
 
 // The most fields that a kind has.
 pub const FIELDS: usize = 15;
@@ -32,28 +32,17 @@ pub trait Stored {
         requires { count ≤ length v.now }
         ensures { result ≡ entry_of kind v.now };
 
-    // Each field's place is behind the one before it, as the table has them.
-    fn entry_at(s: &[u8], at: usize) -> Entry
-        requires { at + LENGTH ≤ length s.now }
-        ensures { result ≡ entry_of kind (values_from kind (drop at s.now)) };
+    // The entry that some bytes begin with.
+    fn entry_from(s: &[u8]) -> Entry
+        requires { LENGTH ≤ length s.now }
+        ensures { result ≡ entry_of kind (values_from kind s.now) };
 
-    // Its fields, one behind the other.
-    fn put(self, out: &mut [u8], at: usize)
-        requires { at + LENGTH ≤ length out.old }
-        ensures { out.new ≡ written out.old at (fields_bytes (fields_at kind) (values_of (entry self))) };
+    // Its fields, one behind the other, at the front of a slice.
+    fn put(self, out: &mut [u8])
+        requires { LENGTH ≤ length out.old }
+        ensures { out.new ≡ written out.old 0 (fields_bytes (fields_at kind) (values_of (entry self))) };
 
     ghost sized: { LENGTH ≡ total (widths (fields_at kind)) };
-}
-
-// A value without its sign.
-fn plain(x: i64) -> u64
-    ensures { result ≡ nat_abs x }
-{
-    if x < 0 {
-        laws::under(x) + 1
-    } else {
-        laws::size(x)
-    }
 }
 
 fn station_of(arm: i64, most: i64, step: i64) -> Station
@@ -61,55 +50,81 @@ fn station_of(arm: i64, most: i64, step: i64) -> Station
 {
     Station {
         arm,
-        most: plain(most),
-        step: plain(step),
+        most: most.unsigned_abs(),
+        step: step.unsigned_abs(),
     }
 }
 
-// The value of a field at a place: of a byte, of a word, of a signed word.
-fn byte_at(s: &[u8], at: usize) -> i64
-    requires { at + 1 ≤ length s.now }
-    ensures { result ≡ pos (number_of (take 1 (drop at s.now))) }
-{
-    number_at(s, at, 1) as i64
+// The bytes that are still to be read. Each method takes a field off their front.
+#[derive(Drop)]
+struct Fields<'a> {
+    rest: &'a [u8],
 }
 
-fn word_at(s: &[u8], at: usize) -> i64
-    requires { at + 4 ≤ length s.now }
-    ensures { result ≡ pos (number_of (take 4 (drop at s.now))) }
-{
-    number_at(s, at, 4) as i64
+impl<'a> Fields<'a> {
+    #[inline(always)]
+    fn byte(&mut self) -> u64
+        requires { 1 ≤ length self.old.rest.now }
+        ensures { Taken byte self.old.rest.now (pos result) self.new.rest.now }
+    {
+        let s = self.rest;
+        self.rest = &s[1..];
+        u64::from(s[0])
+    }
+
+    // The number that four bytes spell.
+    #[inline(always)]
+    fn number(&mut self) -> u32
+        requires { 4 ≤ length self.old.rest.now }
+        ensures { TakenNumber 4 self.old.rest.now result self.new.rest.now }
+    {
+        let s = self.rest;
+        self.rest = &s[4..];
+        number_of([s[0], s[1], s[2], s[3]])
+    }
+
+    #[inline(always)]
+    fn word(&mut self) -> u64
+        requires { 4 ≤ length self.old.rest.now }
+        ensures { Taken word self.old.rest.now (pos result) self.new.rest.now }
+    {
+        u64::from(self.number())
+    }
+
+    #[inline(always)]
+    fn signed(&mut self) -> i64
+        requires { 4 ≤ length self.old.rest.now }
+        ensures { Taken signed_word self.old.rest.now result self.new.rest.now }
+    {
+        signed(self.number())
+    }
+
+    // Arm, greatest load and step.
+    #[inline(always)]
+    fn station(&mut self) -> Station
+        requires { 12 ≤ length self.old.rest.now }
+        ensures { TakenStation self.old.rest.now result self.new.rest.now }
+    {
+        Station {
+            arm: self.signed(),
+            most: self.word(),
+            step: self.word(),
+        }
+    }
 }
 
-fn signed_at(s: &[u8], at: usize) -> i64
-    requires { at + 4 ≤ length s.now }
-    ensures { result ≡ field_value signed_word (number_of (take 4 (drop at s.now))) }
+// The last bytes of a number, as many as the slice has; and those of the word that stands for a signed one.
+fn put_plain(out: &mut [u8], n: u64)
+    ensures { out.new ≡ bytes_of (length out.old) n }
 {
-    signed(number_at(s, at, 4))
+    let width = out.len();
+    put_number(out, 0, width, n);
 }
 
-// A byte, a word and a signed word put at a place. The answer is the place behind.
-fn put_byte(out: &mut [u8], at: usize, n: u64) -> usize
-    requires { at + 1 ≤ length out.old }
-    ensures { (result ≡ at + 1) × (out.new ≡ written out.old at (bytes_of 1 n)) }
+fn put_signed(out: &mut [u8], x: i64)
+    ensures { out.new ≡ bytes_of (length out.old) (complement 4 x) }
 {
-    put_number(out, at, 1, n);
-    at + 1
-}
-
-fn put_word(out: &mut [u8], at: usize, n: u64) -> usize
-    requires { at + 4 ≤ length out.old }
-    ensures { (result ≡ at + 4) × (out.new ≡ written out.old at (bytes_of 4 n)) }
-{
-    put_number(out, at, 4, n);
-    at + 4
-}
-
-fn put_signed(out: &mut [u8], at: usize, x: i64) -> usize
-    requires { at + 4 ≤ length out.old }
-    ensures { (result ≡ at + 4) × (out.new ≡ written out.old at (bytes_of 4 (complement 4 x))) }
-{
-    put_word(out, at, word_of(x))
+    put_plain(out, word_of(x));
 }
 
 // m; p, q, a, b, n
@@ -128,38 +143,34 @@ impl Stored for Weighing {
 
     fn entry_of(v: &[i64]) -> Entry {
         Entry::Weighing(Weighing {
-            m: plain(v[0]),
-            p: plain(v[1]),
-            q: plain(v[2]),
+            m: v[0].unsigned_abs(),
+            p: v[1].unsigned_abs(),
+            q: v[2].unsigned_abs(),
             a: v[3],
-            b: plain(v[4]),
-            n: plain(v[5]),
+            b: v[4].unsigned_abs(),
+            n: v[5].unsigned_abs(),
         })
     }
 
-    fn entry_at(s: &[u8], at: usize) -> Entry {
-        let p = at + 1;
-        let q = p + 4;
-        let a = q + 4;
-        let b = a + 4;
-        let n = b + 4;
-        Weighing::entry_of(&[
-            byte_at(s, at),
-            word_at(s, p),
-            word_at(s, q),
-            signed_at(s, a),
-            word_at(s, b),
-            word_at(s, n),
-        ])
+    fn entry_from(s: &[u8]) -> Entry {
+        let mut fields = Fields { rest: s };
+        Entry::Weighing(Weighing {
+            m: fields.byte(),
+            p: fields.word(),
+            q: fields.word(),
+            a: fields.signed(),
+            b: fields.word(),
+            n: fields.word(),
+        })
     }
 
-    fn put(self, out: &mut [u8], at: usize) {
-        let at = put_byte(out, at, self.m);
-        let at = put_word(out, at, self.p);
-        let at = put_word(out, at, self.q);
-        let at = put_signed(out, at, self.a);
-        let at = put_word(out, at, self.b);
-        put_word(out, at, self.n);
+    fn put(self, out: &mut [u8]) {
+        put_plain(&mut out[..1], self.m);
+        put_plain(&mut out[1..5], self.p);
+        put_plain(&mut out[5..9], self.q);
+        put_signed(&mut out[9..13], self.a);
+        put_plain(&mut out[13..17], self.b);
+        put_plain(&mut out[17..21], self.n);
     }
 }
 
@@ -181,66 +192,58 @@ impl Stored for Sheet {
         Entry::Sheet(Sheet {
             fwd: v[0],
             aft: v[1],
-            dry: plain(v[2]),
-            wet: plain(v[3]),
-            nlp: plain(v[4]),
+            dry: v[2].unsigned_abs(),
+            wet: v[3].unsigned_abs(),
+            nlp: v[4].unsigned_abs(),
             front: station_of(v[5], v[7], v[8]),
-            least: plain(v[6]),
+            least: v[6].unsigned_abs(),
             rear: station_of(v[9], v[10], v[11]),
             water: station_of(v[12], v[13], v[14]),
         })
     }
 
-    fn entry_at(s: &[u8], at: usize) -> Entry {
-        let aft = at + 4;
-        let dry = aft + 4;
-        let wet = dry + 4;
-        let nlp = wet + 4;
-        let front = nlp + 4;
-        let least = front + 4;
-        let most = least + 4;
-        let step = most + 4;
-        let rear = step + 4;
-        let rear_most = rear + 4;
-        let rear_step = rear_most + 4;
-        let water = rear_step + 4;
-        let water_most = water + 4;
-        let water_step = water_most + 4;
-        Sheet::entry_of(&[
-            signed_at(s, at),
-            signed_at(s, aft),
-            word_at(s, dry),
-            word_at(s, wet),
-            word_at(s, nlp),
-            signed_at(s, front),
-            word_at(s, least),
-            word_at(s, most),
-            word_at(s, step),
-            signed_at(s, rear),
-            word_at(s, rear_most),
-            word_at(s, rear_step),
-            signed_at(s, water),
-            word_at(s, water_most),
-            word_at(s, water_step),
-        ])
+    fn entry_from(s: &[u8]) -> Entry {
+        let mut fields = Fields { rest: s };
+        let fwd = fields.signed();
+        let aft = fields.signed();
+        let dry = fields.word();
+        let wet = fields.word();
+        let nlp = fields.word();
+        let arm = fields.signed();
+        let least = fields.word();
+        Entry::Sheet(Sheet {
+            fwd,
+            aft,
+            dry,
+            wet,
+            nlp,
+            front: Station {
+                arm,
+                most: fields.word(),
+                step: fields.word(),
+            },
+            least,
+            rear: fields.station(),
+            water: fields.station(),
+        })
     }
 
-    fn put(self, out: &mut [u8], at: usize) {
-        let at = put_signed(out, at, self.fwd);
-        let at = put_signed(out, at, self.aft);
-        let at = put_word(out, at, self.dry);
-        let at = put_word(out, at, self.wet);
-        let at = put_word(out, at, self.nlp);
-        let at = put_signed(out, at, self.front.arm);
-        let at = put_word(out, at, self.least);
-        let at = put_word(out, at, self.front.most);
-        let at = put_word(out, at, self.front.step);
-        let at = put_signed(out, at, self.rear.arm);
-        let at = put_word(out, at, self.rear.most);
-        let at = put_word(out, at, self.rear.step);
-        let at = put_signed(out, at, self.water.arm);
-        let at = put_word(out, at, self.water.most);
-        put_word(out, at, self.water.step);
+    fn put(self, out: &mut [u8]) {
+        put_signed(&mut out[..4], self.fwd);
+        put_signed(&mut out[4..8], self.aft);
+        put_plain(&mut out[8..12], self.dry);
+        put_plain(&mut out[12..16], self.wet);
+        put_plain(&mut out[16..20], self.nlp);
+        put_signed(&mut out[20..24], self.front.arm);
+        put_plain(&mut out[24..28], self.least);
+        put_plain(&mut out[28..32], self.front.most);
+        put_plain(&mut out[32..36], self.front.step);
+        put_signed(&mut out[36..40], self.rear.arm);
+        put_plain(&mut out[40..44], self.rear.most);
+        put_plain(&mut out[44..48], self.rear.step);
+        put_signed(&mut out[48..52], self.water.arm);
+        put_plain(&mut out[52..56], self.water.most);
+        put_plain(&mut out[56..60], self.water.step);
     }
 }
 
@@ -262,20 +265,23 @@ impl Stored for Change {
         Entry::Change(Change {
             c: v[0],
             arm: v[1],
-            flag: plain(v[2]),
+            flag: v[2].unsigned_abs(),
         })
     }
 
-    fn entry_at(s: &[u8], at: usize) -> Entry {
-        let arm = at + 4;
-        let flag = arm + 4;
-        Change::entry_of(&[signed_at(s, at), signed_at(s, arm), byte_at(s, flag)])
+    fn entry_from(s: &[u8]) -> Entry {
+        let mut fields = Fields { rest: s };
+        Entry::Change(Change {
+            c: fields.signed(),
+            arm: fields.signed(),
+            flag: fields.byte(),
+        })
     }
 
-    fn put(self, out: &mut [u8], at: usize) {
-        let at = put_signed(out, at, self.c);
-        let at = put_signed(out, at, self.arm);
-        put_byte(out, at, self.flag);
+    fn put(self, out: &mut [u8]) {
+        put_signed(&mut out[..4], self.c);
+        put_signed(&mut out[4..8], self.arm);
+        put_plain(&mut out[8..9], self.flag);
     }
 }
 
@@ -295,46 +301,40 @@ impl Stored for Paired {
 
     fn entry_of(v: &[i64]) -> Entry {
         Entry::Paired(Paired {
-            m: plain(v[0]),
-            p: plain(v[1]),
-            q: plain(v[2]),
-            p2: plain(v[3]),
-            q2: plain(v[4]),
+            m: v[0].unsigned_abs(),
+            p: v[1].unsigned_abs(),
+            q: v[2].unsigned_abs(),
+            p2: v[3].unsigned_abs(),
+            q2: v[4].unsigned_abs(),
             a: v[5],
-            b: plain(v[6]),
-            n: plain(v[7]),
+            b: v[6].unsigned_abs(),
+            n: v[7].unsigned_abs(),
         })
     }
 
-    fn entry_at(s: &[u8], at: usize) -> Entry {
-        let p = at + 1;
-        let q = p + 4;
-        let p2 = q + 4;
-        let q2 = p2 + 4;
-        let a = q2 + 4;
-        let b = a + 4;
-        let n = b + 4;
-        Paired::entry_of(&[
-            byte_at(s, at),
-            word_at(s, p),
-            word_at(s, q),
-            word_at(s, p2),
-            word_at(s, q2),
-            signed_at(s, a),
-            word_at(s, b),
-            word_at(s, n),
-        ])
+    fn entry_from(s: &[u8]) -> Entry {
+        let mut fields = Fields { rest: s };
+        Entry::Paired(Paired {
+            m: fields.byte(),
+            p: fields.word(),
+            q: fields.word(),
+            p2: fields.word(),
+            q2: fields.word(),
+            a: fields.signed(),
+            b: fields.word(),
+            n: fields.word(),
+        })
     }
 
-    fn put(self, out: &mut [u8], at: usize) {
-        let at = put_byte(out, at, self.m);
-        let at = put_word(out, at, self.p);
-        let at = put_word(out, at, self.q);
-        let at = put_word(out, at, self.p2);
-        let at = put_word(out, at, self.q2);
-        let at = put_signed(out, at, self.a);
-        let at = put_word(out, at, self.b);
-        put_word(out, at, self.n);
+    fn put(self, out: &mut [u8]) {
+        put_plain(&mut out[..1], self.m);
+        put_plain(&mut out[1..5], self.p);
+        put_plain(&mut out[5..9], self.q);
+        put_plain(&mut out[9..13], self.p2);
+        put_plain(&mut out[13..17], self.q2);
+        put_signed(&mut out[17..21], self.a);
+        put_plain(&mut out[21..25], self.b);
+        put_plain(&mut out[25..29], self.n);
     }
 }
 
@@ -359,13 +359,16 @@ impl Stored for Seat {
         })
     }
 
-    fn entry_at(s: &[u8], at: usize) -> Entry {
-        let higher = at + 4;
-        Seat::entry_of(&[signed_at(s, at), signed_at(s, higher)])
+    fn entry_from(s: &[u8]) -> Entry {
+        let mut fields = Fields { rest: s };
+        Entry::Seat(Seat {
+            lower: fields.signed(),
+            higher: fields.signed(),
+        })
     }
 
-    fn put(self, out: &mut [u8], at: usize) {
-        let at = put_signed(out, at, self.lower);
-        put_signed(out, at, self.higher);
+    fn put(self, out: &mut [u8]) {
+        put_signed(&mut out[..4], self.lower);
+        put_signed(&mut out[4..8], self.higher);
     }
 }

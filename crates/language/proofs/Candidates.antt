@@ -11,7 +11,7 @@ use lib.ListN.{get_or}
 use Rattle.paper.specs.File.{plain_at, entry_of}
 use Rattle.numerals.specs.Numerals.{most_digits}
 use Rattle.numerals.proofs.Words.{value_small}
-use Rattle.values.specs.Places.{Readable}
+use Rattle.wording.specs.Texts.{Readable}
 use Rattle.language.specs.Lines.{first_word, other_words, kind_named, values_from, candidate}
 
 -- an entry of small values

@@ -10,7 +10,6 @@ use lib.IntN.{ℤ, pos, nat_abs}
 use lib.ListN.{length, replicate, drop, get_or}
 use lib.Seq.{take_at, take_all}
 use borrow.Author.Tests.{eq-eqb, eqb-true}
-use Rattle.laws.specs.Bytes.{index_of}
 use Rattle.laws.specs.Equal.{eq_list, same_list, list_same}
 use Rattle.laws.specs.Lists.{Each, each_more}
 use Rattle.laws.specs.Splits.{index_first, index_none, drop-part, drop_past}
@@ -19,14 +18,14 @@ use Rattle.paper.specs.declared.Entry.TheVariants as entry
 use Rattle.paper.specs.Placard.{space}
 use Rattle.paper.specs.Rows.{joined}
 use Rattle.paper.specs.File.{kind_of, values_of, entry_of}
-use Rattle.numerals.specs.Numerals.{numeral, value_of, most_digits}
+use Rattle.numerals.specs.Numerals.{numeral, most_digits}
 use Rattle.numerals.proofs.Words.{numeral_above, value_back}
-use Rattle.wording.specs.Texts.{name_of, entry_text}
-use Rattle.values.specs.Places.{Readable, in_places}
-use Rattle.wording.proofs.Parts.{values_text, values_few}
+use Rattle.wording.specs.Texts.{name_of, values_text, entry_text, Readable}
+use Rattle.wording.proofs.Parts.{values_few}
 use Rattle.language.specs.declared.Line.{Line}
 use Rattle.language.specs.declared.Line.TheVariants as line
 use Rattle.language.specs.Lines.{undo_text, passed_over, Means, kind_named, first_word, other_words, values_from, candidate, says}
+use Rattle.language.proofs.Values.{no_values}
 use Rattle.language.proofs.Candidates.{candidate_readable}
 use Rattle.language.proofs.read_line.Reads as read-line
 
@@ -45,11 +44,6 @@ other_words_lem : (ws : List ℕ) (vs : List ℤ) → Word ws → other_words (w
 unfolding other_words joined
 other_words_lem ws [] h = rw (append-nil ws, index_none space ws h) (drop_past ws)
 other_words_lem ws (v ∷ vs) h = rw (index_first space ws (numeral v ++ values_text vs) h) (drop-part ws space (numeral v ++ values_text vs))
-
-no_values : (k : ℕ) → values_from k [] ≡ replicate k (pos 0)
-unfolding values_from first_word other_words value_of index_of
-no_values zero = refl
-no_values (suc k) = ap (λ vs. pos 0 ∷ vs) (no_values k)
 
 -- ---- the text of an entry
 
@@ -73,6 +67,10 @@ name_word (entry.Seat f) = omega arith
 others_text : (e : Entry) → other_words (entry_text e) ≡ drop 1 (values_text (values_of e))
 unfolding entry_text
 others_text e = other_words_lem (name_of (kind_of e)) (values_of e) (name_word e)
+
+-- values in the first of fifteen places, 0 in the others
+abbrev in_places : List ℤ → List ℤ
+in_places vs = vs ++ replicate (15 - length vs) (pos 0)
 
 in-places : (e : Entry) → entry_of (kind_of e) (in_places (values_of e)) ≡ e
 unfolding entry_of

@@ -7,8 +7,7 @@ use Rattle.paper.specs.declared.Entry.{Entry}
 use Rattle.paper.specs.Placard.{space}
 use Rattle.paper.specs.File.{entry_of}
 use Rattle.numerals.specs.Numerals.{value_of}
-use Rattle.values.specs.Places.{Readable}
-use Rattle.wording.specs.Texts.{entry_text}
+use Rattle.wording.specs.Texts.{entry_text, Readable}
 use Rattle.language.specs.declared.Line.{Line}
 use Rattle.language.specs.declared.Line.TheVariants as line
 

@@ -3,14 +3,11 @@
 // The logbook's language: what a line says.
 ghost use Rattle.std.specs.Prelude.{◌≡◌, suc, ◌≤◌, length, get_or, drop};
 ghost use Rattle.paper.specs.Numbers.{code_of};
-ghost use Rattle.language.specs.Lines.{kind_named, values_from, candidate, says};
+ghost use Rattle.paper.specs.File.{entry_of};
+ghost use Rattle.language.specs.Lines.{kind_named, other_words, values_from, candidate, says};
 
-use arrayvec::ArrayString;
-use kinds::FIELDS;
-use paper::{Entry, Kind};
-
-// Room for the text of every entry: a name, and fifteen numbers of at most 21 bytes with a space before each.
-const LONGEST: usize = 338;
+use kinds::{FIELDS, Stored};
+use paper::{Change, Entry, Kind, Paired, Seat, Sheet, Weighing};
 
 // What a line says.
 #[derive(Clone, Copy)]
@@ -21,23 +18,16 @@ pub enum Line {
     NotUnderstood,
 }
 
-// The letter at a place, 0 where there is none, as the definition of `candidate` reads it.
-fn letter_at(s: &[u8], i: usize) -> u8
-    ensures { result ≡ get_or s.now i 0 }
-{
-    s.get(i).copied().unwrap_or(0)
-}
-
-// The kind whose name begins with these two letters.
+// The kind whose name begins as a line does; of one that begins with no kind's name, any kind.
 #[tactic(auto, unfolding(crate::specs::Lines::kind_named))]
-fn kind_named(x: u8, y: u8) -> Kind
-    ensures { code_of result ≡ kind_named x y }
+fn kind_of(s: &[u8]) -> Kind
+    ensures { code_of result ≡ kind_named (get_or s.now 0 0) (get_or s.now 1 0) }
 {
-    match (x, y) {
-        (b'w', _) => Kind::Weighing,
-        (b's', b'h') => Kind::Sheet,
-        (b's', _) => Kind::Seat,
-        (b'c', _) => Kind::Change,
+    match s {
+        [b'w', ..] => Kind::Weighing,
+        [b's', b'h', ..] => Kind::Sheet,
+        [b's', ..] => Kind::Seat,
+        [b'c', ..] => Kind::Change,
         _ => Kind::Paired,
     }
 }
@@ -49,17 +39,27 @@ pub fn behind(s: &[u8], end: usize) -> usize
     if end < s.len() { end + 1 } else { s.len() }
 }
 
-// The numbers of the words from a place on, 0 where there are no more.
-fn values_at(s: &[u8], from: usize) -> [i64; FIELDS]
-    requires { from ≤ length s.now }
-    ensures { result ≡ values_from 15 (drop from s.now) }
+// The entry of a kind with the first of these values.
+fn entry_of(kind: Kind, v: &[i64]) -> Entry
+    requires { 15 ≤ length v.now }
+    ensures { result ≡ entry_of (code_of kind) v.now }
 {
-    let mut v = [0i64; FIELDS];
-    let mut at = from;
-    for i in 0..FIELDS {
-        let end = laws::find(s, at, s.len(), b' ');
-        v[i] = numerals::number_of(&s[at..end]);
-        at = behind(s, end);
+    match kind {
+        Kind::Weighing => Weighing::entry_of(v),
+        Kind::Sheet => Sheet::entry_of(v),
+        Kind::Change => Change::entry_of(v),
+        Kind::Paired => Paired::entry_of(v),
+        Kind::Seat => Seat::entry_of(v),
+    }
+}
+
+// The numbers of the words behind the first, 0 where there are no more.
+fn values_of(s: &[u8]) -> [i64; FIELDS]
+    ensures { result ≡ values_from 15 (other_words s.now) }
+{
+    let mut v = [0; FIELDS];
+    for (i, word) in s.split(|x| *x == b' ').skip(1).take(FIELDS).enumerate() {
+        v[i] = numerals::number_of(word);
     }
     v
 }
@@ -68,10 +68,7 @@ fn values_at(s: &[u8], from: usize) -> [i64; FIELDS]
 fn candidate(s: &[u8]) -> Entry
     ensures { result ≡ candidate s.now }
 {
-    let end = laws::find(s, 0, s.len(), b' ');
-    let v = values_at(s, behind(s, end));
-    let kind = kind_named(letter_at(s, 0), letter_at(s, 1));
-    values::entry_of(kind, v)
+    entry_of(kind_of(s), &values_of(s))
 }
 
 // What a line says. It is an entry's where writing that entry gives the line again.
@@ -85,9 +82,7 @@ pub fn read_line(s: &[u8]) -> Line
         return Line::Undo;
     }
     let e = candidate(s);
-    let mut text = ArrayString::<LONGEST>::new();
-    wording::put_entry(&mut text, e);
-    if s == text.as_bytes() {
+    if s == wording::text_of(e).as_bytes() {
         Line::Entry(e)
     } else {
         Line::NotUnderstood

@@ -13,3 +13,4 @@ pub mod Division
 pub mod Equal
 pub mod Z
 pub mod Floor
+pub mod Sides

@@ -2,7 +2,7 @@
 use Rattle.std.specs.Prelude.{◌≡◌, List, [], ◌∷◌, ◌++◌, ℕ, suc, ◌+◌, ◌-◌, ◌≤◌, ◌<◌, length, get_or, take, drop, set}
 use Rattle.std.proofs.Common.{ap, ◌∙◌, sym, append_assoc, append-nil, arith, length-set, length-append, length-drop, take-append-drop, length-take-le, take_all, take-suc, take_at, drop_at, drop-drop}
 use Rattle.std.proofs.Math.Seq.{take-append_seam, drop-length, append_snoc}
-use Rattle.std.proofs.lemmas.List.{set_at, set_split}
+use Rattle.std.proofs.lemmas.List.{length-take, set_at, set_split}
 
 unfoldable pub written : {A : Type 0} → List A → ℕ → List A → List A
 written s at xs = take at s ++ xs ++ drop (at + length xs) s
@@ -96,6 +96,10 @@ pub written_three : {A : Type 0} (s a b xs zs : List A) (y : A) (at k : ℕ) →
 written_three s a b xs zs y at k e h m n = rw (n, m) (written-between s xs y at k e h zs)
 
 -- ---- into the part from a place on
+
+-- which has room for what the whole has room for
+pub part_long : {A : Type 0} (xs : List A) (at n : ℕ) → at + n ≤ length xs → n ≤ length (take (length xs - at) (drop at xs))
+part_long xs at n h = omega (arith, length-take (length xs - at) (drop at xs), length-drop at xs)
 
 part-written : {A : Type 0} (xs ls : List A) (at : ℕ) → take at xs ++ (written (take (length xs - at) (drop at xs)) 0 ls ++ drop (length xs - at) (drop at xs)) ≡ written xs at ls
 unfolding written

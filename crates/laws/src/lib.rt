@@ -1,11 +1,12 @@
 #![tactic(auto)]
 
-// Numbers with nothing of gliders in them: a signed number's two sides, a product and a quotient with their bounds.
+// With nothing of gliders in them: signed numbers by two sides, and bytes that are copied.
 // The crate's specs/ hold the lemmas that every crate above rests on.
-ghost use Rattle.std.specs.Prelude.{◌≡◌, ◌+◌, ◌*◌, ◌/◌, ◌^◌, ◌≤◌, ◌<◌, length, pos, negsuc, ◌-ℤ◌, ◌≤ℤ◌, ◌<ℤ◌};
-ghost use Rattle.laws.specs.Bytes.{slice, index_of};
+ghost use Rattle.std.specs.Prelude.{◌≡◌, ◌^◌, ◌≤◌, ◌<◌, length};
 ghost use Rattle.laws.specs.Written.{written};
-ghost use Rattle.laws.specs.Z.{SidesOf};
+ghost use Rattle.laws.specs.Sides.{value_of, sides_of, sum_of, difference_of, times_of, Fits};
+
+use std::ops::{Add, Mul, Sub};
 
 // A signed number by two sides, the one less the other.
 #[derive(Clone, Copy)]
@@ -14,72 +15,77 @@ pub struct Sides {
     pub down: u64,
 }
 
-// A number that is not negative, without its sign.
-pub fn size(x: i64) -> u64
-    requires { pos 0 ≤ℤ x }
-    ensures { pos result ≡ x }
-{
-    x as u64
+impl Sides {
+    // The number, signed.
+    pub fn value(self) -> i64
+        requires { (self.up < 2 ^ 63) × (self.down < 2 ^ 63) }
+        ensures { result ≡ value_of self }
+    {
+        self.up as i64 - self.down as i64
+    }
 }
 
-// How far a number below 0 lies under -1, which the least number can tell too.
-pub fn under(x: i64) -> u64
-    requires { x <ℤ pos 0 }
-    ensures { (x ≡ negsuc result) × (result < 2 ^ 63) }
-{
-    size(-1 - x)
-}
+// One side of a number is 0.
+impl From<i64> for Sides {
+    ghost from_gives = { λ z x. x ≡ sides_of z };
 
-// The two sides of a number from -2000000 to 2000000; one of them is 0.
-pub fn split(x: i64) -> Sides
-    requires { (negsuc 1999999 ≤ℤ x) × (x ≤ℤ pos 2000000) }
-    ensures { SidesOf x result.up result.down }
-{
-    if x < 0 {
-        Sides {
-            up: 0,
-            down: size(0 - x),
-        }
-    } else {
-        Sides {
-            up: size(x),
-            down: 0,
+    fn from(z: i64) -> Sides {
+        if z < 0 {
+            Sides {
+                up: 0,
+                down: z.unsigned_abs(),
+            }
+        } else {
+            Sides {
+                up: z.unsigned_abs(),
+                down: 0,
+            }
         }
     }
 }
 
-// One size less another, signed.
-pub fn signed_of(up: u64, down: u64) -> i64
-    requires { (up < 2 ^ 60) × (down < 2 ^ 60) }
-    ensures { result ≡ pos up -ℤ pos down }
-{
-    up as i64 - down as i64
+impl Add for Sides {
+    type Output = Sides;
+
+    ghost can_add = { λ x y. Fits (sum_of x y) };
+
+    ghost add_gives = { λ x y r. r ≡ sum_of x y };
+
+    fn add(self, rhs: Sides) -> Sides {
+        Sides {
+            up: self.up + rhs.up,
+            down: self.down + rhs.down,
+        }
+    }
 }
 
-// A product of two numbers of at most 4000000.
-pub fn times(x: u64, y: u64) -> u64
-    requires { (x ≤ 4000000) × (y ≤ 4000000) }
-    ensures { (result ≡ x * y) × (result ≤ 16000000000000) }
-{
-    x * y
+impl Sub for Sides {
+    type Output = Sides;
+
+    ghost can_sub = { λ x y. Fits (difference_of x y) };
+
+    ghost sub_gives = { λ x y r. r ≡ difference_of x y };
+
+    fn sub(self, rhs: Sides) -> Sides {
+        Sides {
+            up: self.up + rhs.down,
+            down: self.down + rhs.up,
+        }
+    }
 }
 
-// A quotient, which is at most what is divided.
-pub fn over(n: u64, d: u64) -> u64
-    requires { 0 < d }
-    ensures { (result ≡ n / d) × (result ≤ n) }
-{
-    n / d
-}
+impl Mul<u64> for Sides {
+    type Output = Sides;
 
-// The place of the first byte b from one place to another; the other place where there is none.
-pub fn find(s: &[u8], from: usize, to: usize, b: u8) -> usize
-    requires { (from ≤ to) × (to ≤ length s.now) }
-    ensures { (result ≡ from + index_of b (slice from to s.now)) × (result ≤ to) }
-{
-    match s[from..to].iter().position(|x| *x == b) {
-        Some(i) => from + i,
-        None => to,
+    ghost can_mul = { λ x n. Fits (times_of n x) };
+
+    ghost mul_gives = { λ x n r. r ≡ times_of n x };
+
+    fn mul(self, rhs: u64) -> Sides {
+        Sides {
+            up: rhs * self.up,
+            down: rhs * self.down,
+        }
     }
 }
 

@@ -2,7 +2,9 @@
 use mathlib.Core.Path.{◌≡◌, refl, sym, ap, ◌∙◌}
 use mathlib.Core.List.{List, [], ◌∷◌, ◌++◌}
 use mathlib.Core.Option.{none, some}
-use Rattle.std.specs.Prelude.{Result}
+use Rattle.std.specs.Prelude.{Result, Ok, Err, Some, None}
+use Rattle.std.specs.Prelude.{Option as RustOption}
+use Rattle.std.specs.Option.{ok_or}
 use Prim.Native.Nat.{ℕ, ◌+◌, ◌-◌, ◌≤◌, ◌<◌}
 use native.Mathlib.Omega.{arith}
 use lib.ListN.{length, take, drop, set}
@@ -24,7 +26,7 @@ use Rattle.paper.proofs.Lists.{last_apart}
 use Rattle.format.specs.Files.{same_length, file_accepted}
 use Rattle.record.proofs.Calls.{undo_bare, undo_some}
 use Rattle.header.specs.Header.{header_of}
-use Rattle.stored.specs.Found.{bytes_in}
+use Rattle.stored.specs.Found.{bytes_in, LastAt}
 use Rattle.stored.proofs.Parts.{file_size, too_short, long_enough}
 use Rattle.front.specs.Front.{held_in}
 use Rattle.lent.specs.Lent.{lent_file, lent_by, lent_call, lent_read}
@@ -105,11 +107,20 @@ module _ (x : Call) (s : List ℕ) where
     unfolding lent_call
     accepted_held k = ap (λ o. lent_by o x s) h ∙ by_accepted es x s k
 
--- taking back: nothing to take back, or the header of one entry less
+-- taking back: where the last entry is, and where there is none
+pub no_last : (es : List Entry) (o : RustOption ℕ) (r : Refusal) → LastAt es o → Err r ≡ ok_or o refusal.Empty → (es ≡ []) × (r ≡ refusal.Empty)
+no_last es None r l e = (l, cc)
+no_last es (Some n) r l e = cc
+
+pub last_there : (es : List Entry) (o : RustOption ℕ) (n : ℕ) → LastAt es o → Ok n ≡ ok_or o refusal.Empty → (0 < length es) × (n ≡ 6 + length (bytes_in (without_last es)))
+last_there es None n l e = cc
+last_there es (Some m) n l e = let same : n ≡ m = cc in (l.0, same ∙ l.1)
+
+-- nothing to take back, or the header of one entry less
 module _ (s : List ℕ) (es : List Entry) (h : held_in s ≡ some es) where
-  pub bare_held : length es ≡ 0 → (10, s) ≡ lent_call undo s
+  pub bare_held : (n : ℕ) → n ≡ 10 → es ≡ [] → (n, s) ≡ lent_call undo s
   unfolding call_number
-  bare_held k = refused_held undo s es h 10 (sym (undo_bare es k)) (omega arith)
+  bare_held n e k = refused_held undo s es h n (e ∙ sym (undo_bare es (ap length k))) (omega arith)
 
   pub undone : (last : List ℕ) (n count : ℕ) → 0 < length es → n ≡ 6 + length (bytes_in (without_last es)) → count ≡ length es → last ≡ written s 0 (header_of (n - 4) (count - 1)) → (0, last) ≡ lent_call undo s
   unfolding call_number accepted_call

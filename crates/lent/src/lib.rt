@@ -10,14 +10,14 @@ ghost use Rattle.paper.specs.File.{file_as};
 ghost use Rattle.paper.specs.Journal.{call_of, undo as undo_call};
 ghost use Rattle.lent.specs.Lent.{lent_file, lent_call, lent_read};
 
-use header::{HEADER, VERSION};
+use header::{Header, Version};
 use paper::{Entry, Refusal};
 
 // A fresh record at the front of the buffer: 11 where it is too short.
 pub fn fresh(buffer: &mut [u8]) -> Result<(), Refusal>
     ensures { (number_in result, buffer.new) ≡ lent_file [] buffer.old }
 {
-    if buffer.len() < HEADER {
+    if buffer.len() < Header::LENGTH {
         return Err(Refusal::ShortBuffer);
     }
     header::put_header(buffer, 2, 0);
@@ -33,7 +33,7 @@ fn append(buffer: &mut [u8], end: usize, count: usize, e: Entry) -> Result<(), R
     if buffer.len() - end < entries::length_of(e) {
         return Err(Refusal::ShortBuffer);
     }
-    let behind = entries::put_entry(buffer, end, e);
+    let behind = end + entries::put_entry(&mut buffer[end..], e);
     header::put_header(buffer, behind - 4, count);
     Ok(())
 }
@@ -52,11 +52,8 @@ pub fn undo(buffer: &mut [u8]) -> Result<(), Refusal>
     ensures { (number_in result, buffer.new) ≡ lent_call undo_call buffer.old }
 {
     let found = front::held(buffer)?;
-    let count = found.standing.entries;
-    if count == 0 {
-        return Err(Refusal::Empty);
-    }
-    header::put_header(buffer, found.last - 4, count - 1);
+    let last = found.last.ok_or(Refusal::Empty)?;
+    header::put_header(buffer, last - 4, found.standing.entries - 1);
     Ok(())
 }
 
@@ -69,6 +66,6 @@ pub fn read(buffer: &mut [u8], file: &[u8]) -> Result<(), Refusal>
         return Err(Refusal::ShortBuffer);
     }
     laws::copy(file, buffer);
-    buffer[4] = VERSION;
+    buffer[4] = Version::WRITTEN as u8;
     Ok(())
 }

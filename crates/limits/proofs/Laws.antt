@@ -2,16 +2,19 @@
 -- the whole weight and moment, and a line is one order of its sides. Assumes nothing.
 use mathlib.Core.Path.{◌≡◌, refl, sym, ◌∙◌}
 use mathlib.Core.Bool.{Bool, true, ◌&&◌, ◌||◌, and_assoc, and-true}
-use Prim.Native.Nat.{ℕ, zero, suc, ◌+◌, ◌*◌, ◌/◌, ◌≤◌, ◌<◌}
+use Prim.Native.Nat.{ℕ, zero, suc, ◌+◌, ◌*◌, ◌/◌, ◌<◌, max}
 use native.Mathlib.Nat.{le-div_iff_mul-le}
 use native.Mathlib.Omega.{arith}
 use lib.Dec.{leb, eqb}
 use lib.IntN.{ℤ, pos, ◌+ℤ◌, ◌*ℤ◌}
 use lib.Signed.{le_z}
-use borrow.Author.Tests.{ne_eqb}
+use Rattle.std.specs.Int.{div_ceil}
+use borrow.Author.Tests.{leb-true, le-leb, ne_eqb}
 use Rattle.laws.specs.declared.Sides.{Sides}
-use Rattle.laws.specs.Tests.{same, left, leb_by, in_span, span_lo, span_hi}
+use Rattle.laws.specs.Division.{ceil}
+use Rattle.laws.specs.Tests.{same, both, left, right, leb_by, in_span, span_lo, span_hi}
 use Rattle.laws.specs.Z.{Is, is_nat, is_add, is_mul, le_z_test}
+use Rattle.laws.specs.Sides.{is_by}
 use Rattle.paper.specs.declared.Sheet.{Sheet}
 use Rattle.paper.specs.declared.Seat.{Seat}
 use Rattle.paper.specs.Units.{half_grams}
@@ -23,32 +26,31 @@ use Rattle.planes.proofs.Arms.{last, kept_is}
 use Rattle.aboard.specs.declared.Laden.{Laden}
 use Rattle.aboard.specs.Sides.{safe_arm}
 use Rattle.aboard.specs.Aboard.{plus, scaled, Stands, Beside, LoadOf}
-use Rattle.aboard.proofs.Standing.{is_by, stands-plus, load-scaled}
-use Rattle.limits.specs.Seats.{forward_margin, safe_margin, weight_test, fwd_test, aft_test, in_seat}
+use Rattle.aboard.proofs.Standing.{stands-plus, load-scaled}
+use Rattle.limits.specs.Seats.{forward_margin, safe_margin, weight_test, fwd_test, aft_test, in_seat, is_load}
 
 -- no half grams are no grams
 no_halves : (n : ℕ) → eqb n 0 ≡ eqb (2 * n) 0
 no_halves zero = refl
 no_halves (suc n) = ne_eqb (suc n) 0 (omega arith) ∙ sym (ne_eqb (2 * suc n) 0 (omega arith))
 
--- two tests, part by part
-pub parts : {a b c d : Bool} → a ≡ c → b ≡ d → (a && b) ≡ (c && d)
-parts e f = rw (e, f)
+-- ---- the steps of the seat: from the least number of them that makes the least load, and a gram
 
--- ---- the steps of the seat, where lo is the least number of them that makes the least load
-
-module _ (s : Sheet) (lo : ℕ) (pos : 0 < s.front.step) (least : (q : ℕ) → (lo ≤ q → s.least ≤ q * s.front.step) × (s.least ≤ q * s.front.step → lo ≤ q)) (k : ℕ) where
-  pub in_seat_lem : (leb lo k && leb k (s.front.most / s.front.step)) ≡ in_seat s k
-  in_seat_lem =
-      let f = s.front.step in
-      let most = le-div_iff_mul-le {k = f} {x = k} {y = s.front.most} pos in
-      same (leb lo k && leb k (s.front.most / f)) (in_seat s k)
-      (λ e. in_span s.least s.front.most (k * f) ((least k).0 (span_lo lo (s.front.most / f) k e)) (most.0 (span_hi lo (s.front.most / f) k e)))
-      (λ e. in_span lo (s.front.most / f) k ((least k).1 (span_lo s.least s.front.most (k * f) e)) (most.1 (span_hi s.least s.front.most (k * f) e)))
-
--- a load of one gram or more
-pub occupied : (f k : ℕ) → leb (1 + 0 * k) (0 + f * k) ≡ leb 1 (k * f)
-occupied f k = leb_by (1 + 0 * k) (0 + f * k) 1 (k * f) (omega arith) (omega arith) refl
+pub is_load_lem : (s : Sheet) → 0 < s.front.step → (k : ℕ) → (leb (div_ceil (max s.least 1) s.front.step) k && leb k (s.front.most / s.front.step)) ≡ is_load s k
+is_load_lem s step k =
+    let f = s.front.step in
+    let lo = div_ceil (max s.least 1) f in
+    let hi = s.front.most / f in
+    let least = ceil (max s.least 1) f k step in
+    let most = le-div_iff_mul-le {k = f} {x = k} {y = s.front.most} step in
+    same (leb lo k && leb k hi) (is_load s k)
+    (λ e.
+    let load = least.0 (span_lo lo hi k e) in
+    both (in_seat s k) (leb 1 (k * f)) (in_span s.least s.front.most (k * f) (omega (arith, load)) (most.0 (span_hi lo hi k e))) (le-leb 1 (k * f) (omega (arith, load))))
+    (λ e.
+    let seat = left (in_seat s k) (leb 1 (k * f)) e in
+    let some = leb-true 1 (k * f) (right (in_seat s k) (leb 1 (k * f)) e) in
+    in_span lo hi k (least.1 (omega (arith, span_lo s.least s.front.most (k * f) seat, some))) (most.1 (span_hi s.least s.front.most (k * f) seat)))
 
 -- ---- the lines of what is carried
 

@@ -1,6 +1,7 @@
 -- The front seat as the code has it, and which numbers of steps in it keep the limits.
 use Rattle.std.specs.Prelude.{◌≡◌, Bool, true, ◌&&◌, ℕ, ◌+◌, ◌*◌, ℤ, leb}
 use Rattle.laws.specs.declared.Sides.{Sides}
+use Rattle.laws.specs.Sides.{difference_of}
 use Rattle.paper.specs.declared.Sheet.{Sheet}
 use Rattle.paper.specs.declared.Seat.{Seat}
 use Rattle.paper.specs.Record.{Balance}
@@ -13,7 +14,7 @@ use Rattle.solver.specs.Span.{within}
 
 -- the margins of the moment: the moment less FWD's; 20 times the safe aft limit's less 20 times the moment
 abbrev pub forward_margin : Laden → Sides
-forward_margin x = record { up = x.moment.up + x.forward.down; down = x.moment.down + x.forward.up }
+forward_margin x = difference_of x.moment x.forward
 
 abbrev pub safe_margin : Laden → Sides
 safe_margin x = record { up = 20 * x.moment.down + x.safe.up; down = 20 * x.moment.up + x.safe.down }

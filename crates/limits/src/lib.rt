@@ -33,10 +33,7 @@ fn forward_margin(x: &Laden) -> Sides
     requires { Room 256 x.now }
     ensures { result ≡ forward_margin x.now }
 {
-    Sides {
-        up: x.moment.up + x.forward.down,
-        down: x.moment.down + x.forward.up,
-    }
+    x.moment - x.forward
 }
 
 // The margin to the safe aft limit, twenty times: its moment at that weight less the moment.
@@ -50,22 +47,15 @@ fn safe_margin(x: &Laden) -> Sides
     }
 }
 
-// The numbers of steps from the least front load to the greatest; none of them is 0, since somebody is in the seat.
+// The numbers of steps from the least front load to the greatest, and to at least a gram, since somebody is in the seat.
 fn steps(force: &InForce) -> Span
     ensures { (k : ℕ) → within result k ≡ is_load force.now.sheet k }
 {
     let front = force.sheet.front;
-    let all = Span {
-        lo: solver::ceil_div(force.sheet.least, front.step),
+    Span {
+        lo: force.sheet.least.max(1).div_ceil(front.step),
         hi: front.most / front.step,
-    };
-    all.narrow(
-        Sides { up: 0, down: 1 },
-        Sides {
-            up: front.step,
-            down: 0,
-        },
-    )
+    }
 }
 
 // What a step of the front seat weighs and turns at an arm.
@@ -73,7 +63,7 @@ fn step_at(arms: &Arms, arm: i64) -> Laden
     requires { is_arm arm ≡ true }
     ensures { StepAt arms.now.force.sheet arm result }
 {
-    arms.grams_at(arms.force.sheet.front.step, laws::split(arm))
+    arms.grams_at(arms.force.sheet.front.step, Sides::from(arm))
 }
 
 impl Front {

@@ -48,27 +48,25 @@ bytes-kilograms n =
     (each_append (λ (x : ℕ). x < 256) (digits 4 (n / 1000)) (point ∷ digits 3 (n % 1000)) (digits_small 4 (n / 1000)) (omega arith, digits_small 3 (n % 1000)))
 
 -- two fields, by their words
-pub pair_written : (s last : List ℕ) (at a b r w : ℕ) → a ≡ word (kilograms r) → b ≡ word (kilograms w) → last ≡ written s at (bytes a ++ space ∷ bytes b) → last ≡ written s at (kilograms r ++ space ∷ kilograms w)
-pair_written s last at a b r w e f l = rw (e, f, bytes-kilograms r, bytes-kilograms w) at l
+pub pair_written : (s last : List ℕ) (a b r w : ℕ) → a ≡ word (kilograms r) → b ≡ word (kilograms w) → last ≡ written s 0 (bytes a ++ space ∷ bytes b) → last ≡ written s 0 (kilograms r ++ space ∷ kilograms w)
+pair_written s last a b r w e f l = rw (e, f, bytes-kilograms r, bytes-kilograms w) at l
 
 -- ---- stores one after the other
 
-abbrev pub sets : List ℕ → ℕ → ℕ → List ℕ → List ℕ
-sets s at k [] = s
-sets s at k (x ∷ xs) = sets (set s (at + k) x) at (k + 1) xs
+abbrev pub sets : List ℕ → ℕ → List ℕ → List ℕ
+sets s k [] = s
+sets s k (x ∷ xs) = sets (set s k x) (k + 1) xs
 
-sets-written : (s : List ℕ) (at k : ℕ) (xs : List ℕ) → at + k + length xs ≤ length s → sets s at k xs ≡ written s (at + k) xs
-sets-written s at k [] h = sym (written_none s (at + k))
-sets-written s at k (x ∷ xs) h =
-    let e : at + (k + 1) ≡ at + k + 1 = omega arith in
-    sets-written (set s (at + k) x) at (k + 1) xs (simp length-set (omega arith))
-    ∙ rw e (written_behind s (at + k) x xs (omega arith))
+sets-written : (s : List ℕ) (k : ℕ) (xs : List ℕ) → k + length xs ≤ length s → sets s k xs ≡ written s k xs
+sets-written s k [] h = sym (written_none s k)
+sets-written s k (x ∷ xs) h =
+    sets-written (set s k x) (k + 1) xs (simp length-set (omega arith)) ∙ written_behind s k x xs (omega arith)
 
--- the eight bytes, the first at the place itself
-pub bytes-written : (s : List ℕ) (at x : ℕ) → at + 8 ≤ length s → sets (set s at (x % 256)) at 1 (tabulate 7 (λ (i : ℕ). x / 256 ^ suc i % 256)) ≡ written s at (bytes x)
+-- the eight bytes
+pub bytes-written : (s : List ℕ) (x : ℕ) → 8 ≤ length s → sets (set s 0 (x % 256)) 1 (tabulate 7 (λ (i : ℕ). x / 256 ^ suc i % 256)) ≡ written s 0 (bytes x)
 unfolding bytes
-bytes-written s at x h =
+bytes-written s x h =
     let xs = tabulate 7 (λ (i : ℕ). x / 256 ^ suc i % 256) in
-    sets-written (set s at (x % 256)) at 1 xs (simp length-set (omega arith))
-    ∙ written_behind s at (x % 256) xs (omega arith)
+    sets-written (set s 0 (x % 256)) 1 xs (simp length-set (omega arith))
+    ∙ written_behind s 0 (x % 256) xs (omega arith)
     ∙ simp div-div-eq-div-mul

@@ -7,8 +7,8 @@ use native.Mathlib.Nat.{mod-eq_of_lt}
 use native.Mathlib.Omega.{arith}
 use Rattle.laws.specs.Lists.{parts_same}
 use Rattle.laws.specs.Spelled.{same_spelled}
-use Rattle.paper.specs.declared.Row.{Row}
-use Rattle.paper.specs.declared.Row.TheVariants.{Range, Blank}
+use Rattle.std.specs.Prelude.{Some, None}
+use Rattle.paper.specs.Rows.{Row}
 use Rattle.paper.specs.Placard.{space, feed, digits, kilograms, ends, line, Fits, RowFits, ReadAs}
 use Rattle.line.proofs.Length.{length-kilograms, length_pair, length_fields}
 use Rattle.numerals.proofs.Digits.{spelled, length_digits}
@@ -32,16 +32,16 @@ pair_same a b c d fa fb fc fd e =
     (kilograms_same a c fa fc p.0, kilograms_same b d fb fd (tail-eq_of_cons-eq p.1))
 
 -- a digit is no hyphen
-no_hyphens : (lo hi : ℕ) → ends (Range lo hi) ≡ ends Blank → ⊥
+no_hyphens : (lo hi : ℕ) → ends (Some (lo, hi)) ≡ ends None → ⊥
 unfolding ends kilograms digits
 no_hyphens lo hi e = let h = head-eq_of_cons-eq e in omega arith
 
 ends_same : (x y : Row) → RowFits x → RowFits y → ends x ≡ ends y → x ≡ y
 unfolding ends
-ends_same (Range a b) (Range c d) h l e = let p = pair_same a b c d h.0 h.1 l.0 l.1 e in rw (p.0, p.1)
-ends_same (Range a b) Blank h l e = absurd (no_hyphens a b e)
-ends_same Blank (Range c d) h l e = absurd (no_hyphens c d (sym e))
-ends_same Blank Blank h l e = refl
+ends_same (Some (a, b)) (Some (c, d)) h l e = let p = pair_same a b c d h.0 h.1 l.0 l.1 e in rw (p.0, p.1)
+ends_same (Some (a, b)) None h l e = absurd (no_hyphens a b e)
+ends_same None (Some (c, d)) h l e = absurd (no_hyphens c d (sym e))
+ends_same None None h l e = refl
 
 pub legible : {xs : List ℕ} {r w r' w' : ℕ} {x y : Row} → ReadAs xs r w x → ReadAs xs r' w' y → (r ≡ r') × (w ≡ w') × (x ≡ y)
 unfolding line

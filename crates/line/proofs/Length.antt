@@ -4,8 +4,8 @@ use mathlib.Core.List.{[], ◌∷◌, ◌++◌}
 use Prim.Native.Nat.{ℕ, ◌/◌, ◌%◌}
 use native.Mathlib.Omega.{arith}
 use lib.ListN.{length, length-append}
-use Rattle.paper.specs.declared.Row.{Row}
-use Rattle.paper.specs.declared.Row.TheVariants.{Range, Blank}
+use Rattle.std.specs.Prelude.{Some, None}
+use Rattle.paper.specs.Rows.{Row}
 use Rattle.paper.specs.Placard.{space, feed, point, digits, kilograms, ends, line}
 use Rattle.numerals.proofs.Digits.{length_digits}
 
@@ -20,8 +20,8 @@ length_pair a b = omega (arith, length-append (kilograms a) (space ∷ kilograms
 
 pub length-ends : (x : Row) → length (ends x) ≡ 17
 unfolding ends
-length-ends (Range lo hi) = length_pair lo hi
-length-ends Blank = refl
+length-ends (Some (lo, hi)) = length_pair lo hi
+length-ends None = refl
 
 -- all four
 pub length_fields : (r w : ℕ) (x : Row) → length (kilograms r ++ space ∷ kilograms w ++ space ∷ ends x) ≡ 35

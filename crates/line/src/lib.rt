@@ -58,54 +58,57 @@ pub fn field(n: u64) -> u64
     ensures { result ≡ word (kilograms n) }
 {
     let m = n as u32;
-    let z = quarters((m / 1000) as u64 + (m % 1000) as u64 * 4_294_967_296);
+    let z = quarters(u64::from(m / 1000) + u64::from(m % 1000) * 4_294_967_296);
     eighths(z) + NOUGHT
 }
 
-// A word's bytes from a place on, the lowest first: eight assignments, of which either compiler makes one store. By `to_le_bytes`
-// and `copy_from_slice` a word takes seven instructions more, and a row of the placard has four.
-fn put_word(out: &mut [u8], at: usize, x: u64)
-    requires { at + 8 ≤ length out.old }
-    ensures { out.new ≡ written out.old at (bytes x) }
+// Each function below puts at the front of the slice that it is lent, and the bytes behind stay.
+
+// A word's bytes, the lowest first: eight assignments, of which either compiler makes one store. By `to_le_bytes` and
+// `copy_from_slice` a word takes seven instructions more, and a row of the placard has four.
+fn put_word(out: &mut [u8], x: u64)
+    requires { 8 ≤ length out.old }
+    ensures { out.new ≡ written out.old 0 (bytes x) }
 {
-    out[at] = (x % 256) as u8;
-    out[at + 1] = (x / 256 % 256) as u8;
-    out[at + 2] = (x / 65_536 % 256) as u8;
-    out[at + 3] = (x / 16_777_216 % 256) as u8;
-    out[at + 4] = (x / 4_294_967_296 % 256) as u8;
-    out[at + 5] = (x / 1_099_511_627_776 % 256) as u8;
-    out[at + 6] = (x / 281_474_976_710_656 % 256) as u8;
-    out[at + 7] = (x / 72_057_594_037_927_936 % 256) as u8;
+    out[0] = (x % 256) as u8;
+    out[1] = (x / 256 % 256) as u8;
+    out[2] = (x / 65_536 % 256) as u8;
+    out[3] = (x / 16_777_216 % 256) as u8;
+    out[4] = (x / 4_294_967_296 % 256) as u8;
+    out[5] = (x / 1_099_511_627_776 % 256) as u8;
+    out[6] = (x / 281_474_976_710_656 % 256) as u8;
+    out[7] = (x / 72_057_594_037_927_936 % 256) as u8;
 }
 
 // Two fields with a space between.
-fn put_pair(out: &mut [u8], at: usize, a: u64, b: u64)
-    requires { at + 17 ≤ length out.old }
-    ensures { out.new ≡ written out.old at (bytes a ++ space ∷ bytes b) }
+fn put_pair(out: &mut [u8], a: u64, b: u64)
+    requires { 17 ≤ length out.old }
+    ensures { out.new ≡ written out.old 0 (bytes a ++ space ∷ bytes b) }
 {
-    put_word(out, at, a);
-    out[at + 8] = b' ';
-    put_word(out, at + 9, b);
+    put_word(out, a);
+    out[8] = b' ';
+    put_word(&mut out[9..], b);
 }
 
 // Smallest and largest front load, or hyphens.
-fn put_ends(out: &mut [u8], at: usize, x: Row)
-    requires { (at + 17 ≤ length out.old) × RowFits x }
-    ensures { out.new ≡ written out.old at (ends x) }
+fn put_ends(out: &mut [u8], x: Row)
+    requires { (17 ≤ length out.old) × RowFits x }
+    ensures { out.new ≡ written out.old 0 (ends x) }
 {
-    match x {
-        Row::Range(lo, hi) => put_pair(out, at, field(lo), field(hi)),
-        Row::Blank => put_pair(out, at, HYPHENS, HYPHENS),
-    }
+    let (lo, hi) = match x {
+        Some((lo, hi)) => (field(lo), field(hi)),
+        None => (HYPHENS, HYPHENS),
+    };
+    put_pair(out, lo, hi);
 }
 
-// The whole line into the first 36 bytes of a buffer, by the fields of rear load and water; the bytes behind them stay.
+// The whole line, by the fields of rear load and water: 36 bytes.
 pub fn put_line(out: &mut [u8], rear: u64, water: u64, x: Row)
     requires { (36 ≤ length out.old) × RowFits x }
     ensures { (r w : ℕ) → rear ≡ word (kilograms r) → water ≡ word (kilograms w) → out.new ≡ written out.old 0 (line r w x) }
 {
-    put_pair(out, 0, rear, water);
+    put_pair(out, rear, water);
     out[17] = b' ';
-    put_ends(out, 18, x);
+    put_ends(&mut out[18..], x);
     out[35] = b'\n';
 }

@@ -1,10 +1,12 @@
 #![tactic(auto)]
 
 // What the programs print, and what they take and how they read it.
-ghost use Rattle.std.specs.Prelude.{◌≡◌, ◌≤◌, length, take, IfOk};
+ghost use Rattle.std.specs.Prelude.{◌≡◌, ◌≤◌, length, take, IfOk, MatchResult};
 ghost use Rattle.paper.specs.Numbers.{number_in};
+ghost use Rattle.lines.specs.Written.{Writes};
 
 use paper::{CentreOfGravity, Refusal};
+use record::Record;
 use std::io::Read;
 use std::{fmt, io};
 
@@ -37,14 +39,9 @@ pub fn number<A>(answer: &Result<A, Refusal>) -> u64
     }
 }
 
-// That something is refused, and by which number.
-pub fn refused(to: &impl Print, refusal: Refusal) -> io::Result<()> {
-    println!(to; "refused {}", u64::from(refusal))
-}
-
-// Reads until the buffer is full or there is no more. The answer is how many bytes were read.
-pub fn read_full(from: &mut impl Read, out: &mut [u8]) -> io::Result<usize>
-    ensures { IfOk result (λ n. n ≤ length out.new) }
+// Reads until the buffer is full or there is no more. The answer is the part of it that is filled.
+pub fn read_full<'a>(from: &mut impl Read, out: &'a mut [u8]) -> io::Result<&'a [u8]>
+    ensures { IfOk result (λ s. length s.now ≤ length out.old) }
 {
     let mut at = 0;
     for _ in 0..out.len() {
@@ -54,7 +51,7 @@ pub fn read_full(from: &mut impl Read, out: &mut [u8]) -> io::Result<usize>
         }
         at += n;
     }
-    Ok(at)
+    Ok(&out[..at])
 }
 
 // The input in so many blocks, each as long as the buffer where there is as much, and handed on in turn.
@@ -67,8 +64,7 @@ pub fn each_block<R: Read, F: FnMut(&[u8]) -> io::Result<()>>(
     requires { F.IsAlwaysCallable act }
 {
     for _ in 0..blocks {
-        let n = read_full(from, buffer)?;
-        act(&buffer[..n])?;
+        act(read_full(from, buffer)?)?;
     }
     Ok(())
 }
@@ -86,6 +82,19 @@ pub fn lent(buffer: &mut [u8], n: usize) -> &mut [u8]
 {
     let room = n.min(buffer.len());
     &mut buffer[..room]
+}
+
+// What a call writes of a record at the front of a buffer, by the length that it answers.
+pub fn written<'a, F: FnOnce(&Record, &mut [u8]) -> Result<usize, Refusal>>(
+    call: F,
+    log: &Record,
+    out: &'a mut [u8],
+) -> Result<&'a [u8], Refusal>
+    requires { F.IsAlwaysCallable call }
+    ensures { MatchResult result (λ s. (n : _) × (new : _) × Writes F.FnOnce call log.now out.old (Ok n) new × (s.now ≡ take n new)) (λ why. (new : _) × Writes F.FnOnce call log.now out.old (Err why) new) }
+{
+    let n = call(log, out)?;
+    Ok(first(out, n))
 }
 
 // The sum of bytes, in which each place counts.

@@ -17,7 +17,7 @@ use Rattle.paper.specs.File.{Field, field_value, layout_of, values_of}
 use Rattle.paper.specs.Refusals.{entry_number}
 use Rattle.format.specs.Rows.{fields_of}
 use Rattle.format.specs.Fitting.{Fit, AllFit, done, ◌and◌, entry_fits}
-use Rattle.values.specs.Places.{Readable}
+use Rattle.wording.specs.Texts.{Readable}
 
 -- ---- one value
 

@@ -1,11 +1,10 @@
--- The entries in a record's slots in turn: one that is refused is passed over; one that is accepted is readable, and its lines
--- find room behind those of the others. Assumes nothing.
+-- The entries in a record's slots in turn: one that is refused is passed over, and the lines of one that is accepted find room
+-- behind those of the others. Assumes nothing.
 use mathlib.Core.Path.{◌≡◌, sym, ap, ◌∙◌}
 use mathlib.Core.List.{List, [], ◌∷◌, ◌++◌}
 use Prim.Native.Nat.{ℕ, ◌+◌, ◌≤◌, ◌<◌}
 use native.Mathlib.Omega.{arith}
-use lib.ListN.{length, get_or, take}
-use lib.Seq.{take_all}
+use lib.ListN.{length, get_or}
 use Rattle.std.specs.Prelude.{Result}
 use Rattle.paper.specs.declared.Entry.{Entry}
 use Rattle.paper.specs.declared.CentreOfGravity.{CentreOfGravity}
@@ -15,26 +14,25 @@ use Rattle.paper.specs.Answers.{centre_answer}
 use Rattle.judge.specs.Standing.{Stands, stands_in, judged, kept_behind}
 use Rattle.judge.proofs.Following.{judged_at}
 use Rattle.judge.proofs.Accepted.{room_for}
-use Rattle.record.specs.declared.Record.{Record}
-use Rattle.record.specs.Held.{slotted, held_by}
 use Rattle.record.proofs.Turns.{kept_added, kept_same}
 use Rattle.record.proofs.Replays.{held_to, held_more}
-use Rattle.values.specs.Places.{Readable}
 use Rattle.listing.specs.Listings.{lines_of, listing}
-use Rattle.listing.proofs.Readables.{entry_readable}
 use Rattle.listing.proofs.Sizes.{lines_most, listing_most}
 use Rattle.listing.proofs.Turns.{listing-more}
 
 -- the next entry, by its judgement
-module _ (slots : List Entry) (i : ℕ) (e : Entry) (o p : Stands) (n : ℕ) (t : (i < length slots) × (e ≡ get_or slots i e)) (at : o ≡ stands_in (held_to slots i)) (j : ◌≡◌ {A = ℕ × Stands} (n, p) (judged o e)) where
+module _ (slots : List Entry) (i : ℕ) (d : Entry) (o p : Stands) (n : ℕ) (h : i < length slots) (at : o ≡ stands_in (held_to slots i)) (j : ◌≡◌ {A = ℕ × Stands} (n, p) (judged o (get_or slots i d))) where
   abbrev es : List Entry
   es = held_to slots i
+
+  abbrev e : Entry
+  e = get_or slots i d
 
   told : (n ≡ entry_number es e) × (p ≡ stands_in (kept_behind es e))
   told = judged_at es o p e n at j
 
   next : held_to slots (i + 1) ≡ kept_behind es e
-  next = held_more slots i e t.0 ∙ ap (kept_behind es) (sym t.1)
+  next = held_more slots i d h
 
   pub stands-more : p ≡ stands_in (held_to slots (i + 1))
   stands-more = told.1 ∙ ap stands_in (sym next)
@@ -53,9 +51,6 @@ module _ (slots : List Entry) (i : ℕ) (e : Entry) (o p : Stands) (n : ℕ) (t 
     pub stands_is : p ≡ stands_in (es ++ e ∷ [])
     stands_is = stands-more ∙ ap stands_in more
 
-    pub readable : Readable e
-    readable = entry_readable es e none
-
     pub lines-within : (c : Result CentreOfGravity Refusal) → length (listing es) + length (lines_of c e) ≤ 27520
     lines-within c = omega (arith, lines_most c e, listing_most es, room_for es e none)
 
@@ -63,8 +58,3 @@ module _ (slots : List Entry) (i : ℕ) (e : Entry) (o p : Stands) (n : ℕ) (t 
     lines_more c a =
         ap (λ (x : Result CentreOfGravity Refusal). listing es ++ lines_of x e) a ∙ sym (listing-more es e)
         ∙ ap listing (sym more)
-
--- at the end they are those that the record holds
-pub all_slots : (r : Record) (i : ℕ) → i ≡ length (take r.count r.slots) → held_to (take r.count r.slots) i ≡ held_by r
-unfolding held_by slotted
-all_slots r i h = rw (take_all i (take r.count r.slots) (omega (arith, h)))

@@ -3,7 +3,6 @@
 // The listing of a record: its entries as lines of a logbook, with what each weighing and change comes to as a comment.
 ghost use Rattle.std.specs.Prelude.{◌≡◌, ◌++◌, ◌+◌, ◌≤◌, length};
 ghost use Rattle.arrayvec.specs.ArrayString.{array_string_len};
-ghost use Rattle.values.specs.Places.{Readable};
 ghost use Rattle.record.specs.Held.{held_by};
 ghost use Rattle.listing.specs.Listings.{halves, signed_halves, comment, remark, lines_of, listing, listed_answer};
 
@@ -67,10 +66,10 @@ fn put_remark(text: &mut Text, c: Result<CentreOfGravity, Refusal>, e: Entry)
 
 // The lines of such an entry.
 fn put_lines(text: &mut Text, c: Result<CentreOfGravity, Refusal>, e: Entry)
-    requires { Readable e × (array_string_len text.old + length (lines_of c e) ≤ 27520) }
+    requires { array_string_len text.old + length (lines_of c e) ≤ 27520 }
     ensures { text.new.bytes ≡ text.old.bytes ++ lines_of c e }
 {
-    wording::put_entry(text, e);
+    text.push_str(wording::text_of(e).as_str());
     text.push('\n');
     put_remark(text, c, e);
 }
@@ -81,7 +80,7 @@ fn listing_of(r: &Record) -> Text
 {
     let mut text = Text::new();
     let mut standing = Standing::new();
-    for e in r.slots.iter().take(r.count) {
+    for e in r.entries() {
         if standing.add(*e).is_ok() {
             put_lines(&mut text, centre::answer(&standing), *e);
         }
@@ -94,10 +93,8 @@ pub fn show(r: &Record, out: &mut [u8]) -> Result<usize, Refusal>
     ensures { (result, out.new) ≡ listed_answer (held_by r.now) out.old }
 {
     let text = listing_of(r);
-    let length = text.len();
-    if out.len() < length {
+    if out.len() < text.len() {
         return Err(Refusal::ShortBuffer);
     }
-    laws::copy(text.as_bytes(), out);
-    Ok(length)
+    Ok(laws::copy(text.as_bytes(), out))
 }

@@ -1,5 +1,5 @@
 // A record's file as text, and back.
-use lines::first;
+use lines::written;
 use record::Record;
 
 // The record of a file's listing, which is a logbook.
@@ -7,8 +7,7 @@ fn through_text(s: &[u8]) -> Option<Record> {
     let mut log = Record::fresh();
     file::read(&mut log, s).ok()?;
     let mut text = [0u8; listing::LONGEST];
-    let length = listing::show(&log, &mut text).ok()?;
-    book::read(first(&text, length)).ok()
+    book::read(written(listing::show, &log, &mut text).ok()?).ok()
 }
 
 // Whether the file of that record is the same again.
@@ -17,6 +16,5 @@ pub fn same_again(s: &[u8]) -> bool {
         return false;
     };
     let mut out = [0u8; file::LONGEST];
-    let length = file::write(&log, &mut out).unwrap_or(0);
-    first(&out, length) == s
+    written(file::write, &log, &mut out) == Ok(s)
 }

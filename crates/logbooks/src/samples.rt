@@ -1,6 +1,7 @@
 // The samples: each logbook has the placard that is stored beside it, and its file comes back through its text.
 use crate::again::same_again;
-use lines::first;
+use lines::{first, read_full, written};
+use paper::Placard;
 use record::Record;
 use std::fs::File;
 use std::io;
@@ -25,43 +26,32 @@ const SAMPLES: [(&str, &str); 11] = [
 ];
 
 // What a file holds, at the front of a buffer.
-fn read<'a>(rt: &(impl Files + Print), path: &str, out: &'a mut [u8]) -> io::Result<&'a [u8]> {
-    let Ok(mut file) = File::open(rt, path) else {
-        print!(rt; " not found")?;
-        return Ok(b"");
-    };
-    let n = lines::read_full(&mut file, out)?;
-    Ok(&out[..n])
+fn read<'a>(rt: &impl Files, path: &str, out: &'a mut [u8]) -> io::Result<&'a [u8]> {
+    let mut file = File::open(rt, path)?;
+    read_full(&mut file, out)
 }
 
 fn printed(rt: &(impl Files + Print), log: &Record, path: &str) -> io::Result<()> {
     let mut out = [0u8; plate::LONGEST];
-    let p = match plate::placard(log, &mut out) {
-        Ok(p) => p,
-        Err(refusal) => return lines::refused(rt, refusal),
+    let Placard { bytes, rows, blank } = match plate::placard(log, &mut out) {
+        Ok(placard) => placard,
+        Err(refusal) => return println!(rt; "{refusal}"),
     };
     let mut buffer = [0u8; plate::LONGEST];
     let stored = read(rt, path, &mut buffer)?;
-    let same = if first(&out, p.bytes) == stored {
+    let same = if first(&out, bytes) == stored {
         ""
     } else {
         "NOT "
     };
-    print!(rt;
-        " placard {same}as stored, rows {} blank {}",
-        p.rows, p.blank
-    )
+    print!(rt; " placard {same}as stored, rows {rows} blank {blank}")
 }
 
 fn filed(rt: &impl Print, log: &Record) -> io::Result<()> {
     let mut out = [0u8; file::LONGEST];
-    let length = file::write(log, &mut out).unwrap_or(0);
-    let again = if same_again(first(&out, length)) {
-        " again"
-    } else {
-        ""
-    };
-    println!(rt; ", file {length}{again}")
+    let s = written(file::write, log, &mut out).unwrap_or(b"");
+    let again = if same_again(s) { " again" } else { "" };
+    println!(rt; ", file {}{again}", s.len())
 }
 
 fn sample(rt: &(impl Files + Print), logbook: &str, placard: &str) -> io::Result<()> {

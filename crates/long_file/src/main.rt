@@ -4,5 +4,5 @@
 use std::io;
 
 fn main(rt: HostRuntime) -> io::Result<()> {
-    printing::run(&rt)
+    printing::placard(&rt)
 }

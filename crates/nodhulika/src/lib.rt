@@ -16,7 +16,7 @@ use paper::{Change, Paired, Refusal, Seat, Sheet, Station, Weighing};
 use words::long_of;
 
 // How many bytes the numbers of an answer take.
-const ANSWER: usize = 24;
+pub const ANSWER: usize = 24;
 
 // The number of an answer.
 fn number(answer: Result<(), Refusal>) -> u64

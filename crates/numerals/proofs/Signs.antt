@@ -1,39 +1,36 @@
--- Numbers on either side of 0: their numerals, and the number of a word with a minus in front and of one without. Assumes nothing.
-use mathlib.Core.Path.{◌≡◌, refl, ap}
+-- Numbers on either side of 0: their numerals as std prints them, and the number of a word with a minus in front and of one
+-- without. Assumes nothing.
+use mathlib.Core.Path.{◌≡◌, refl, ap, ◌∙◌}
 use mathlib.Core.Bool.{Bool, true, false, ◌&&◌, false≢true}
 use mathlib.Core.List.{List, [], ◌∷◌}
-use Prim.Native.Nat.{ℕ, ◌^◌, ◌<◌}
+use Prim.Native.Nat.{ℕ, suc, ◌^◌, ◌<◌}
 use native.Mathlib.Omega.{arith}
 use lib.Dec.{eqb}
-use lib.IntN.{ℤ, pos, negsuc, neg_ℤ, nat_abs, ◌-ℤ◌}
-use lib.Signed.{lt_z}
-use borrow.Author.Tests.{ltb-true}
+use lib.IntN.{ℤ, pos, negsuc, neg_ℤ, ◌-ℤ◌}
+use lib.Signed.{mag}
 use lib.ListN.{take, drop}
 use lib.Pointwise.{pointwise}
 use mir.Syntax.{w64}
-use mir.Val.{SFits, to_z}
+use mir.Val.{SFits, hbits, to_z, of_z}
+use mir.Facts.{to_z-of_z}
+use Rattle.std.specs.Fmt.{signed_decimal}
 use Rattle.laws.specs.Tests.{left}
 use Rattle.laws.specs.Z.{zs, is_bits, is_sub}
 use Rattle.paper.specs.Placard.{hyphen}
-use Rattle.numerals.specs.Numerals.{decimal, numeral, size_of, most_digits, value_of}
+use Rattle.numerals.specs.Numerals.{numeral, size_of, most_digits, value_of}
+use Rattle.numerals.proofs.Lengths.{decimal_same}
 
--- ---- numerals: by the sign, and the size; y is what the code holds of x
+-- ---- numerals
 
-below : (y : ℤ) → lt_z y (pos 0) ≡ true → numeral y ≡ hyphen ∷ decimal (nat_abs y)
+-- as std has them
+numeral_same : (z : ℤ) → mag z < 2 ^ 63 → signed_decimal z ≡ numeral z
 unfolding numeral
-below (pos n) b = absurd (omega (arith, ltb-true n 0 b))
-below (negsuc n) b = refl
+numeral_same (pos n) h = decimal_same n (omega arith)
+numeral_same (negsuc n) h = ap (λ ds. hyphen ∷ ds) (decimal_same (suc n) (omega arith))
 
-from : (y : ℤ) → lt_z y (pos 0) ≡ false → numeral y ≡ decimal (nat_abs y)
-unfolding numeral
-from (pos n) b = refl
-from (negsuc n) b = cc
-
-pub numeral_below : (x y : ℤ) (n : ℕ) → y ≡ x → lt_z y (pos 0) ≡ true → n ≡ nat_abs y → numeral x ≡ hyphen ∷ decimal n
-numeral_below x y n e b m = rw (← e, m) (below y b)
-
-pub numeral_from : (x y : ℤ) (n : ℕ) → y ≡ x → lt_z y (pos 0) ≡ false → n ≡ nat_abs y → numeral x ≡ decimal n
-numeral_from x y n e b m = rw (← e, m) (from y b)
+-- of a number as it is held
+pub numeral_held : (x : ℤ) (ds : List ℕ) → mag x < 2 ^ hbits w64 → ds ≡ signed_decimal (to_z w64 (of_z w64 x)) → ds ≡ numeral x
+numeral_held x ds h e = (rw (to_z-of_z {w = w64} {z = x} (record { sfits = h })) at e) ∙ numeral_same x h
 
 -- ---- the number of a word
 

@@ -16,7 +16,7 @@ use Rattle.laws.specs.Spelled.{read_spelled}
 use Rattle.paper.specs.Placard.{hyphen, nought, digits}
 use Rattle.numerals.specs.Numerals.{places, decimal, numeral, digit_of, size_of, most_digits, value_of}
 use Rattle.numerals.proofs.Digits.{spelled}
-use Rattle.numerals.proofs.Lengths.{length-decimal, places_some, places_most, places-within, places_small}
+use Rattle.numerals.proofs.Lengths.{length-decimal, places_most, places-within, places_small}
 use Rattle.numerals.proofs.Sizes.{reading, size_below}
 
 -- ---- the bytes of a numeral
@@ -44,11 +44,6 @@ pub numeral_most : (z : ℤ) → length (numeral z) ≤ 21
 unfolding numeral
 numeral_most (pos n) = omega (arith, decimal_most n)
 numeral_most (negsuc n) = omega (arith, decimal_most (suc n))
-
-pub numeral_some : (z : ℤ) → 0 < length (numeral z)
-unfolding numeral
-numeral_some (pos n) = omega (arith, length-decimal n, places_some 19 n)
-numeral_some (negsuc n) = omega arith
 
 -- ---- read back
 

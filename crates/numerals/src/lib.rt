@@ -1,6 +1,6 @@
 #![tactic(auto)]
 
-// Whole numbers as words of text: written in decimal, and read. `itoa` prints the digits, since std's `write!` promises its bytes
+// Whole numbers as words of text: written in decimal, and read. `itoa` prints them, since std's `write!` promises its bytes
 // only where it answers `Ok`, and not that it does.
 ghost use Rattle.std.specs.Prelude.{◌≡◌, ◌++◌, ◌+◌, ◌≤◌, ◌<◌, ◌^◌, length, take};
 ghost use Rattle.arrayvec.specs.ArrayString.{array_string_len};
@@ -25,10 +25,7 @@ pub fn put_number<const N: usize>(text: &mut ArrayString<N>, x: i64)
     requires { array_string_len text.old + length (numeral x) ≤ N }
     ensures { text.new.bytes ≡ text.old.bytes ++ numeral x }
 {
-    if x < 0 {
-        text.push('-');
-    }
-    put_size(text, x.unsigned_abs());
+    text.push_str(Buffer::new().format(x));
 }
 
 // What a digit counts.

@@ -28,7 +28,7 @@ fn put_rows(force: &InForce, b: Balance, out: &mut [u8]) -> usize
     group::put_waters(force, fields);
     let mut none = 0;
     for j in 0..rears {
-        none += terms.put_group(b, j, fields, out);
+        none += terms.put_group(b, j, fields, &mut out[LINE * (j * waters)..]);
     }
     none
 }
@@ -37,8 +37,7 @@ fn put_rows(force: &InForce, b: Balance, out: &mut [u8]) -> usize
 fn row_count(force: &InForce) -> usize
     ensures { (result ≡ row_count force.now.sheet) × (result ≤ 256) }
 {
-    let s = &force.sheet;
-    laws::times(sheet::loads(s.rear), sheet::loads(s.water)) as usize
+    sheet::rows(&force.sheet) as usize
 }
 
 // The placard of what stands: 7 before a weighing, 8 without a sheet, 11 where the buffer is too short, and then no byte of it

@@ -5,7 +5,6 @@ use mathlib.Core.List.{List, [], ◌∷◌}
 use Prim.Native.Nat.{ℕ, ◌<◌}
 use lib.Dec.{eqb}
 use borrow.Author.Tests.{ne_eqb}
-use Rattle.std.specs.Prelude.{Result, Err}
 use Rattle.paper.specs.declared.Refusal.{Refusal}
 use Rattle.paper.specs.declared.Refusal.TheVariants as refusal
 use Rattle.paper.specs.Numbers.{number_of, number_in, refusal_of, answer_of}
@@ -58,9 +57,6 @@ positive refusal.NoFile = omega arith
 
 pub not_0 : (r : Refusal) → eqb (number_of r) 0 ≡ false
 not_0 r = ne_eqb (number_of r) 0 (λ (z : number_of r ≡ 0). let k = positive r in omega arith)
-
-pub answer_told : {A : Type 0} (r : Refusal) (x : A) → ◌≡◌ {A = Result A Refusal} (answer_of (number_of r) x) (Err r)
-answer_told r x = simp (not_0 r, number_back r)
 
 -- ---- the answer of a call's number has that number
 

@@ -1,5 +1,6 @@
 -- The numbers that kinds of entry and refusals have, and the number that an answer stands for.
-use Rattle.std.specs.Prelude.{◌≡◌, cond, ℕ, eqb, Result, Ok, Err, MatchResult}
+use Rattle.std.specs.Prelude.{◌≡◌, cond, ℕ, eqb, List, ◌++◌, codes, Result, Ok, Err, MatchResult}
+use Rattle.std.specs.Fmt.{decimal}
 use Rattle.paper.specs.declared.Kind.{Kind}
 use Rattle.paper.specs.declared.Kind.TheVariants as kind
 use Rattle.paper.specs.declared.UnknownKind.{UnknownKind}
@@ -32,6 +33,10 @@ number_of refusal.Full = 9
 number_of refusal.Empty = 10
 number_of refusal.ShortBuffer = 11
 number_of refusal.NoFile = 12
+
+-- what is printed of a refusal
+abbrev pub refusal_text : Refusal → List ℕ
+refusal_text r = codes "refused " ++ decimal (number_of r)
 
 -- the number of an answer: 0 where the call is accepted
 abbrev pub number_in : {A : Type 0} → Result A Refusal → ℕ

@@ -1,11 +1,9 @@
 -- "The placard": its bytes and its counts.
-use Rattle.std.specs.Prelude.{◌≡◌, cond, List, [], ◌∷◌, ◌++◌, map, ℕ, zero, suc, ◌+◌, ◌*◌, ◌/◌, ◌%◌, ◌^◌, ◌<◌, replicate, take, drop}
+use Rattle.std.specs.Prelude.{◌≡◌, cond, Some, None, List, [], ◌∷◌, ◌++◌, map, ℕ, zero, suc, ◌+◌, ◌*◌, ◌/◌, ◌%◌, ◌^◌, ◌<◌, replicate, take, drop}
 use Rattle.paper.specs.declared.Sheet.{Sheet}
 use Rattle.paper.specs.declared.Seat.{Seat}
-use Rattle.paper.specs.declared.Row.{Row}
-use Rattle.paper.specs.declared.Row.TheVariants.{Range, Blank}
 use Rattle.paper.specs.Record.{Balance}
-use Rattle.paper.specs.Rows.{row, is_blank, row_count, joined, loads}
+use Rattle.paper.specs.Rows.{Row, row, is_blank, row_count, joined, loads}
 
 -- the bytes of a space, a line feed, a hyphen, a point and the digit 0
 abbrev pub space : ℕ
@@ -34,8 +32,8 @@ kilograms n = digits 4 (n / 1000) ++ point ∷ digits 3 (n % 1000)
 
 -- the last two fields of a line: both ends, or eight hyphens for each
 unfoldable pub ends : Row → List ℕ
-ends (Range lo hi) = kilograms lo ++ space ∷ kilograms hi
-ends Blank = replicate 8 hyphen ++ space ∷ replicate 8 hyphen
+ends (Some (lo, hi)) = kilograms lo ++ space ∷ kilograms hi
+ends None = replicate 8 hyphen ++ space ∷ replicate 8 hyphen
 
 -- a line: rear load, water, smallest and largest front load, with one space between, and a line feed
 unfoldable pub line : ℕ → ℕ → Row → List ℕ
@@ -46,8 +44,8 @@ abbrev pub Fits : ℕ → Type 0
 Fits n = n < 10000000
 
 abbrev pub RowFits : Row → Type 0
-RowFits (Range lo hi) = Fits lo × Fits hi
-RowFits Blank = Unit {0}
+RowFits (Some (lo, hi)) = Fits lo × Fits hi
+RowFits None = Unit {0}
 
 -- some bytes can be read as a rear load, water and a row: they are the line of them, and each fits its field
 pub record ReadAs (xs : List ℕ) (r w : ℕ) (x : Row) : Type 0 where

@@ -1,12 +1,10 @@
 -- "A row": which front loads keep every limit, and what a row prints.
-use Rattle.std.specs.Prelude.{Bool, true, false, not, ◌&&◌, ◌||◌, List, [], ◌∷◌, ◌++◌, map, ℕ, zero, suc, ◌+◌, ◌*◌, ◌/◌, ◌%◌, leb, eqb, ℤ, pos, nat_abs, ◌+ℤ◌, ◌-ℤ◌, ◌*ℤ◌, get_or}
-use Rattle.std.proofs.Math.Option.{Option, none, some}
+use Rattle.std.specs.Prelude.{Bool, true, false, not, ◌&&◌, ◌||◌, Option, Some, None, is_none, List, [], ◌∷◌, ◌++◌, map, ℕ, zero, suc, ◌+◌, ◌*◌, ◌/◌, ◌%◌, leb, eqb, ℤ, pos, nat_abs, ◌+ℤ◌, ◌-ℤ◌, ◌*ℤ◌, get_or}
+use Rattle.std.specs.Option.{option_zip}
 use Rattle.std.specs.Int.Signed.{le_z}
 use Rattle.paper.specs.declared.Station.{Station}
 use Rattle.paper.specs.declared.Sheet.{Sheet}
 use Rattle.paper.specs.declared.Seat.{Seat}
-use Rattle.paper.specs.declared.Row.{Row}
-use Rattle.paper.specs.declared.Row.TheVariants.{Range, Blank}
 use Rattle.paper.specs.Units.{half_grams}
 use Rattle.paper.specs.Record.{Balance, with}
 
@@ -101,23 +99,21 @@ good s f b r w p = every_arm f (λ (arm : ℤ). keeps s arm b r w p)
 
 -- the smallest of the n numbers from p on that passes a test
 unfoldable pub smallest : (ℕ → Bool) → ℕ → ℕ → Option ℕ
-smallest q zero p = none
-smallest q (suc n) p = elim (q p) [ true ↦ some p | false ↦ smallest q n (suc p) ]
+smallest q zero p = None
+smallest q (suc n) p = elim (q p) [ true ↦ Some p | false ↦ smallest q n (suc p) ]
 
 -- the largest of the numbers from n down to 0 that passes it
 unfoldable pub largest : (ℕ → Bool) → ℕ → Option ℕ
-largest q zero = elim (q zero) [ true ↦ some zero | false ↦ none ]
-largest q (suc n) = elim (q (suc n)) [ true ↦ some (suc n) | false ↦ largest q n ]
+largest q zero = elim (q zero) [ true ↦ Some zero | false ↦ None ]
+largest q (suc n) = elim (q (suc n)) [ true ↦ Some (suc n) | false ↦ largest q n ]
 
--- a row with these two ends
-abbrev pub range_of : Option ℕ → Option ℕ → Row
-range_of none hi = Blank
-range_of (some lo) none = Blank
-range_of (some lo) (some hi) = Range lo hi
+-- a row prints the range of some loads, from the smallest to the largest, or is blank
+abbrev pub Row : Type 0
+Row = Option (ℕ × ℕ)
 
 -- the row of a test: the smallest and the largest number up to n that passes it, blank where none does
 unfoldable pub row_of : (ℕ → Bool) → ℕ → Row
-row_of q n = range_of (smallest q (suc n) 0) (largest q n)
+row_of q n = option_zip (smallest q (suc n) 0) (largest q n)
 
 -- the row of rear load r and water w
 unfoldable pub row : Sheet → Seat → Balance → ℕ → ℕ → Row
@@ -125,16 +121,15 @@ row s f b r w = row_of (good s f b r w) s.front.most
 
 -- a front load is in a printed range: between its two ends, or one of them
 abbrev pub in_range : ℕ → Row → Bool
-in_range p (Range lo hi) = leb lo p && leb p hi
-in_range p Blank = false
+in_range p (Some (lo, hi)) = leb lo p && leb p hi
+in_range p None = false
 
 -- a row x that is printed for rear load r and water w misses a step: it is good and in no range of x
 abbrev pub misses : Sheet → Seat → Balance → ℕ → ℕ → Row → ℕ → Bool
 misses s f b r w x p = good s f b r w p && not (in_range p x)
 
 abbrev pub is_blank : Row → Bool
-is_blank (Range lo hi) = false
-is_blank Blank = true
+is_blank x = is_none x
 
 -- ---- the rows of a sheet
 

@@ -8,6 +8,8 @@ ghost use Rattle.paper.specs.Units.{is_arm};
 ghost use Rattle.paper.specs.Numbers.{number_of, code_of, Decodes};
 ghost use Rattle.paper.specs.File.{kind_of};
 
+use std::fmt;
+
 // How many entries a record may hold.
 pub const CAPACITY: usize = 64;
 
@@ -242,12 +244,19 @@ impl From<Refusal> for u64 {
     }
 }
 
-// A row of the placard: the smallest and the largest front load, or blank.
-#[derive(Clone, Copy)]
-pub enum Row {
-    Range(u64, u64),
-    Blank,
+impl fmt::Display for Refusal {
+    ghost use Rattle.std.specs.Prelude.{Some};
+    ghost use Rattle.paper.specs.Numbers.{refusal_text};
+
+    ghost output = { λ r. Some (refusal_text r) };
+
+    fn fmt<W: fmt::Write>(&self, f: &mut fmt::Formatter<W>) -> fmt::Result {
+        write!(f, "refused {}", u64::from(*self))
+    }
 }
+
+// A row of the placard: the smallest and the largest front load, or blank.
+pub type Row = Option<(u64, u64)>;
 
 // What the centre-of-gravity call answers, total and moment in half grams.
 #[derive(Clone, Copy)]

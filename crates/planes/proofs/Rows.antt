@@ -9,13 +9,12 @@ use native.Mathlib.Omega.{arith}
 use lib.Dec.{leb, eqb}
 use lib.IntN.{ℤ}
 use borrow.Author.Tests.{leb-true}
+use Rattle.std.specs.Prelude.{Some, None}
 use Rattle.laws.specs.Tests.{same, both, left, right, right_fails, in_span, span_lo, span_hi, and_by, and_not, clash}
 use Rattle.paper.specs.declared.Sheet.{Sheet}
 use Rattle.paper.specs.declared.Seat.{Seat}
-use Rattle.paper.specs.declared.Row.{Row}
-use Rattle.paper.specs.declared.Row.TheVariants.{Range, Blank}
 use Rattle.paper.specs.Record.{Balance}
-use Rattle.paper.specs.Rows.{lines, all, any_fails, keeps_at, breaks_at, up_to, travel, breaks, is_step, keeps, good, row_of, row, in_range, is_blank}
+use Rattle.paper.specs.Rows.{Row, lines, all, any_fails, keeps_at, breaks_at, up_to, travel, breaks, is_step, keeps, good, row_of, row, in_range, is_blank}
 use Rattle.planes.specs.Plane.{HalfPlane, kept_at, Says}
 use Rattle.planes.proofs.Searches.{up_to_lem, up_to_at, Outcome, a_range, a_blank, outcome, found, row_of_none}
 use Rattle.planes.proofs.Arms.{arm_at, every_arm_lem, at_every_arm, no_arm, kept-ends}
@@ -34,8 +33,8 @@ pub record Limits (step : ℕ → Bool) (most : ℕ) (at : ℕ → ℕ → Bool)
 
 -- a blank row has no load in its range
 blank_range : (x : Row) (p : ℕ) → is_blank x ≡ true → in_range p x ≡ false
-blank_range (Range lo hi) p e = absurd (true≢false (sym e))
-blank_range Blank p e = refl
+blank_range (Some (lo, hi)) p e = absurd (true≢false (sym e))
+blank_range None p e = refl
 
 module _ {step : ℕ → Bool} {most : ℕ} {at : ℕ → ℕ → Bool} {w : ℕ} {keeps : ℕ → Bool} (l : Limits step most at w keeps) where
   pub is_step_lem : (p : ℕ) → keeps p ≡ true → step p ≡ true
@@ -45,7 +44,7 @@ module _ {step : ℕ → Bool} {most : ℕ} {at : ℕ → ℕ → Bool} {w : ℕ
   keeps_at_lem p k = up_to_at (at p) w (right (step p) (up_to (at p) w) (sym (l.is p) ∙ k))
 
   -- one in the range of a row whose ends keep every limit
-  between_ends : (p lo hi : ℕ) → keeps lo ≡ true → keeps hi ≡ true → step p ≡ true → in_range p (Range lo hi) ≡ true → keeps p ≡ true
+  between_ends : (p lo hi : ℕ) → keeps lo ≡ true → keeps hi ≡ true → step p ≡ true → in_range p (Some (lo, hi)) ≡ true → keeps p ≡ true
   between_ends p lo hi kl kh s e =
       let a = span_lo lo hi p e in
       let b = span_hi lo hi p e in
@@ -55,12 +54,12 @@ module _ {step : ℕ → Bool} {most : ℕ} {at : ℕ → ℕ → Bool} {w : ℕ
 
   by_outcome : (p : ℕ) → Outcome keeps most → keeps p ≡ (step p && in_range p (row_of keeps most))
   by_outcome p (a_range lo hi e ends) =
-      rw e (same (keeps p) (step p && in_range p (Range lo hi))
+      rw e (same (keeps p) (step p && in_range p (Some (lo, hi)))
       (λ k.
       let s = is_step_lem p k in
       let m = ends.4 p (l.bound p s) k in
-      both (step p) (in_range p (Range lo hi)) s (in_span lo hi p m.0 m.1))
-      (λ k. between_ends p lo hi ends.0 ends.1 (left (step p) (in_range p (Range lo hi)) k) (right (step p) (in_range p (Range lo hi)) k)))
+      both (step p) (in_range p (Some (lo, hi))) s (in_span lo hi p m.0 m.1))
+      (λ k. between_ends p lo hi ends.0 ends.1 (left (step p) (in_range p (Some (lo, hi))) k) (right (step p) (in_range p (Some (lo, hi))) k)))
   by_outcome p (a_blank e none) =
       rw e (same (keeps p) (step p && false)
       (λ k. absurd (clash (keeps p) k (none p (l.bound p (is_step_lem p k)))))
@@ -87,7 +86,7 @@ module _ {step : ℕ → Bool} {most : ℕ} {at : ℕ → ℕ → Bool} {w : ℕ
   none_blank h = ap is_blank (row_of_none keeps most (λ p k. h p))
 
   -- both ends of a printed range keep the limits with none of the water aboard
-  pub ends-kept : (lo hi : ℕ) → row_of keeps most ≡ Range lo hi → (at lo 0 ≡ true) × (at hi 0 ≡ true)
+  pub ends-kept : (lo hi : ℕ) → row_of keeps most ≡ Some (lo, hi) → (at lo 0 ≡ true) × (at hi 0 ≡ true)
   ends-kept lo hi e = let h = found keeps most lo hi e in (keeps_at_lem lo h.0 0 (omega arith), keeps_at_lem hi h.1 0 (omega arith))
 
 -- ---- those of a sheet, a seat and a balance
@@ -140,7 +139,7 @@ breaks_none s f b r p v e =
     (λ d h. fails (lines s (arm_at f d) b r p v) (at_every_arm f (λ arm. keeps_at s arm b r p v) e d h))
 
 -- a printed range ends at the greatest front load at most
-pub range_most : (s : Sheet) (f : Seat) (b : Balance) (r w lo hi : ℕ) → row s f b r w ≡ Range lo hi → (lo ≤ s.front.most) × (hi ≤ s.front.most)
+pub range_most : (s : Sheet) (f : Seat) (b : Balance) (r w lo hi : ℕ) → row s f b r w ≡ Some (lo, hi) → (lo ≤ s.front.most) × (hi ≤ s.front.most)
 unfolding row
 range_most s f b r w lo hi e = let h = found (good s f b r w) s.front.most lo hi e in (h.2, h.3)
 
@@ -149,6 +148,6 @@ pub empty_breaks : (s : Sheet) (arm : ℤ) (b : Balance) (r v : ℕ) → breaks_
 unfolding breaks_at any_fails lines
 empty_breaks s arm b r v = refl
 
-pub range_occupied : (s : Sheet) (f : Seat) (b : Balance) (r w lo hi : ℕ) → row s f b r w ≡ Range lo hi → 1 ≤ lo
+pub range_occupied : (s : Sheet) (f : Seat) (b : Balance) (r w lo hi : ℕ) → row s f b r w ≡ Some (lo, hi) → 1 ≤ lo
 unfolding row
 range_occupied s f b r w lo hi e = leb-true 1 lo (kept-ends s f b r lo 0 (ends-kept (limits_of s f b r w) lo hi e).0).seat

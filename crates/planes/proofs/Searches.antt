@@ -1,17 +1,16 @@
 -- What a search up to a number finds: whether each number passes a test, and the smallest and the largest that do. What the
 -- search returns is split into its two outcomes once, and the rest read off them. Assumes nothing.
 use Prim.Native.Nat.{ℕ, zero, suc, ◌+◌, ◌≤◌, ◌<◌}
-use mathlib.Core.Path.{◌≡◌, refl, sym, ◌∙◌, ap}
-use mathlib.Core.Bool.{Bool, true, false, not, ◌&&◌, true≢false}
+use mathlib.Core.Path.{◌≡◌, refl, sym, ◌∙◌}
+use mathlib.Core.Bool.{Bool, true, false, not, ◌&&◌}
 use mathlib.Core.Logic.{⊎_elim}
-use mathlib.Core.Option.{none, some}
 use native.Mathlib.Nat.{eq-or-lt_of_le}
 use native.Mathlib.Decide.{dec_le}
 use native.Mathlib.Omega.{arith}
+use Rattle.std.specs.Prelude.{Some, None}
+use Rattle.std.proofs.lemmas.Option.{none-some, some_pair_parts}
 use Rattle.laws.specs.Tests.{both, left, right, and_by, clash}
-use Rattle.paper.specs.declared.Row.{Row}
-use Rattle.paper.specs.declared.Row.TheVariants.{Range, Blank}
-use Rattle.paper.specs.Rows.{up_to, one_to, smallest, largest, row_of, is_blank}
+use Rattle.paper.specs.Rows.{up_to, one_to, smallest, largest, row_of}
 
 -- ---- each number passes
 
@@ -52,8 +51,8 @@ one_not_all q (suc n) = by (q (suc n)) refl (one_not_all q n)
 -- ---- the smallest, among the n numbers from p on
 
 data First (q : ℕ → Bool) (n p : ℕ) : Type 0 where
-  first : (m : ℕ) → smallest q n p ≡ some m → q m ≡ true → p ≤ m → m < p + n → ((j : ℕ) → p ≤ j → j < m → q j ≡ false) → First q n p
-  no_first : smallest q n p ≡ none → ((j : ℕ) → p ≤ j → j < p + n → q j ≡ false) → First q n p
+  first : (m : ℕ) → smallest q n p ≡ Some m → q m ≡ true → p ≤ m → m < p + n → ((j : ℕ) → p ≤ j → j < m → q j ≡ false) → First q n p
+  no_first : smallest q n p ≡ None → ((j : ℕ) → p ≤ j → j < p + n → q j ≡ false) → First q n p
 
 -- a number that is not before p is p or after it
 since : (q : ℕ → Bool) (p j : ℕ) → q p ≡ false → (suc p ≤ j → q j ≡ false) → p ≤ j → q j ≡ false
@@ -75,8 +74,8 @@ first_of q (suc n) p = first_here q n p (q p) refl (first_of q n (suc p))
 -- ---- the largest, from n down to 0
 
 data Last (q : ℕ → Bool) (n : ℕ) : Type 0 where
-  last : (m : ℕ) → largest q n ≡ some m → q m ≡ true → m ≤ n → ((j : ℕ) → m < j → j ≤ n → q j ≡ false) → Last q n
-  no_last : largest q n ≡ none → ((j : ℕ) → j ≤ n → q j ≡ false) → Last q n
+  last : (m : ℕ) → largest q n ≡ Some m → q m ≡ true → m ≤ n → ((j : ℕ) → m < j → j ≤ n → q j ≡ false) → Last q n
+  no_last : largest q n ≡ None → ((j : ℕ) → j ≤ n → q j ≡ false) → Last q n
 
 last_zero : (q : ℕ → Bool) (b : Bool) → q zero ≡ b → Last q zero
 unfolding largest
@@ -111,8 +110,8 @@ NonePasses q n = (j : ℕ) → j ≤ n → q j ≡ false
 
 -- what a search comes to: a range with its two ends, or a blank where none passes
 pub data Outcome (q : ℕ → Bool) (n : ℕ) : Type 0 where
-  a_range : (lo hi : ℕ) → row_of q n ≡ Range lo hi → Ends q n lo hi → Outcome q n
-  a_blank : row_of q n ≡ Blank → NonePasses q n → Outcome q n
+  a_range : (lo hi : ℕ) → row_of q n ≡ Some (lo, hi) → Ends q n lo hi → Outcome q n
+  a_blank : row_of q n ≡ None → NonePasses q n → Outcome q n
 
 pub outcome : (q : ℕ → Bool) (n : ℕ) → Outcome q n
 unfolding row_of
@@ -135,44 +134,32 @@ outcome q n = ends (first_of q (suc n) 0) (last_of q n)
 
 -- ---- read off a range
 
-abbrev low_end : Row → ℕ
-low_end (Range lo hi) = lo
-low_end Blank = 0
-
-abbrev high_end : Row → ℕ
-high_end (Range lo hi) = hi
-high_end Blank = 0
-
-not_both : (lo hi : ℕ) → Blank ≡ Range lo hi → ⊥
-not_both lo hi e = true≢false (ap is_blank e)
-
 -- of a row that is a range
-pub found : (q : ℕ → Bool) (n lo hi : ℕ) → row_of q n ≡ Range lo hi → Ends q n lo hi
+pub found : (q : ℕ → Bool) (n lo hi : ℕ) → row_of q n ≡ Some (lo, hi) → Ends q n lo hi
 found q n lo hi e = by (outcome q n)
   where
     by : Outcome q n → Ends q n lo hi
     by (a_range a b f ends) =
-        let x : a ≡ lo = ap low_end (sym f ∙ e) in
-        let y : b ≡ hi = ap high_end (sym f ∙ e) in
-        rw (x, y) at ends
-    by (a_blank f h) = absurd (not_both lo hi (sym f ∙ e))
+        let same = some_pair_parts a lo b hi (sym f ∙ e) in
+        rw (same.0, same.1) at ends
+    by (a_blank f h) = absurd (none-some (lo, hi) (sym f ∙ e))
 
 -- ---- the row of a test whose ends are known, of one that none passes, and of one that is another up to n
 
-pub row_of-ends : (q : ℕ → Bool) (n lo hi : ℕ) → Ends q n lo hi → row_of q n ≡ Range lo hi
+pub row_of-ends : (q : ℕ → Bool) (n lo hi : ℕ) → Ends q n lo hi → row_of q n ≡ Some (lo, hi)
 row_of-ends q n lo hi h = by (outcome q n)
   where
-    by : Outcome q n → row_of q n ≡ Range lo hi
+    by : Outcome q n → row_of q n ≡ Some (lo, hi)
     by (a_range a b f k) =
         let x : a ≡ lo = omega (arith, (h.4 a k.2 k.0).0, (k.4 lo h.2 h.0).0) in
         let y : b ≡ hi = omega (arith, (h.4 b k.3 k.1).1, (k.4 hi h.3 h.1).1) in
         rw (f, x, y)
     by (a_blank f k) = absurd (clash (q lo) h.0 (k lo h.2))
 
-pub row_of_none : (q : ℕ → Bool) (n : ℕ) → NonePasses q n → row_of q n ≡ Blank
+pub row_of_none : (q : ℕ → Bool) (n : ℕ) → NonePasses q n → row_of q n ≡ None
 row_of_none q n h = by (outcome q n)
   where
-    by : Outcome q n → row_of q n ≡ Blank
+    by : Outcome q n → row_of q n ≡ None
     by (a_range a b f k) = absurd (clash (q a) k.0 (h a k.2))
     by (a_blank f k) = f
 

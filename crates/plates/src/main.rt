@@ -11,14 +11,11 @@
 // ones. Then comes the placard: its lines, or of more than twelve the first, the last and the sum of the bytes.
 mod report;
 
-use script::calls::each_line;
+use script::calls::run;
 use std::io;
 
-// All cases.
-const CASES: usize = 65536;
-
 fn main(rt: HostRuntime) -> io::Result<()> {
-    let mut input = [0u8; CASES];
-    let n = lines::read_full(&mut rt.reader(), &mut input)?;
-    each_line(&input[..n], |log, line| report::tried(&rt, log, line))
+    run(&mut rt.reader(), |log, head, last| {
+        report::tried(&rt, log, head, last)
+    })
 }

@@ -1,9 +1,8 @@
-// A line of output for each line of cases, and the placard.
+// A line of output for each case, and the placard.
 use lines::{first, lent, number, sum, unwritten};
-use paper::Placard;
+use paper::{Placard, Refusal};
 use record::Record;
-use script::calls::{head_and_calls, played};
-use script::texts::{digits, split_once};
+use script::texts::{parsed, parted};
 use std::io;
 
 // How many bytes a line has, and how many the longest placard that is printed whole.
@@ -33,24 +32,27 @@ fn printed(rt: &impl Print, placard: &[u8]) -> io::Result<()> {
     println!(rt; "sum {}", sum(placard))
 }
 
-// The rest of a line of output behind its label, and the placard into n bytes.
-fn answered(rt: &impl Print, last: u64, log: &Record, n: usize) -> io::Result<()> {
-    let mut out = [0xAAu8; ROOM + BEHIND];
-    let answer = plate::placard(log, lent(&mut out, n));
+// A case's head, how many bytes are lent and its label, the record that it leaves, and what its last call answers.
+pub fn tried(
+    rt: &impl Print,
+    log: &Record,
+    head: &str,
+    last: Result<(), Refusal>,
+) -> io::Result<()> {
+    let (size, label) = parted(head, ' ')?;
+    let n = parsed::<usize>(size)?;
+    let mut room = [0xAAu8; ROOM + BEHIND];
+    let looked_at = lent(&mut room, n.saturating_add(BEHIND));
+    let answer = plate::placard(log, lent(looked_at, n));
     let refused = number(&answer);
     let Placard { bytes, rows, blank } = answer.unwrap_or(NONE);
-    let left = unwritten(out.get(bytes..n.saturating_add(BEHIND)).unwrap_or(&out));
-    println!(rt; ": {last}; {refused} {bytes} {rows} {blank}; {left}")?;
-    printed(rt, first(&out, bytes))
-}
-
-// A line, which changes the record.
-pub fn tried(rt: &impl Print, log: &mut Record, line: &[u8]) -> io::Result<()> {
-    if line.starts_with(b"#") {
-        return Ok(());
-    }
-    let (head, calls) = head_and_calls(line);
-    let last = played(log, calls);
-    rt.write_all(split_once(head, b' ').map_or(line, |(_, label)| label))?;
-    answered(rt, number(&last), log, digits(line) as usize)
+    let (placard, behind) = looked_at
+        .split_at_checked(bytes)
+        .ok_or(io::ErrorKind::InvalidData)?;
+    print!(rt;
+        "{label}: {}; {refused} {bytes} {rows} {blank}; ",
+        number(&last)
+    )?;
+    println!(rt; "{}", unwritten(behind))?;
+    printed(rt, placard)
 }

@@ -1,45 +1,49 @@
 #![tactic(auto)]
 
-// The reader that walks the entries of a stored file: a struct over its bytes and a place in them.
-// Other crates call `entry_at`, whose parameters are plain.
-ghost use Rattle.std.specs.Prelude.{◌≡◌};
-ghost use Rattle.entries.specs.Walking.{walk_at};
+// The reader that walks the entries of a stored file: a struct over the bytes that are still to be read.
+ghost use Rattle.std.specs.Prelude.{◌≡◌, length};
 
-use paper::Entry;
+use paper::{Entry, Kind};
 
-// The bytes of a file, and the place where the reader stands.
-#[derive(Clone, Copy)]
+// The bytes that are still to be read, and the last kind of entry that the version of their file has.
+#[derive(Drop)]
 pub struct Reader<'a> {
-    src: &'a [u8],
-    at: usize,
+    rest: &'a [u8],
+    kinds: Kind,
 }
 
 impl<'a> Reader<'a> {
-    // Over some bytes; it stands at the first of them.
-    pub fn new(src: &'a [u8]) -> Reader<'a>
-        ensures { (result.src ≡ src.entry) × (result.at ≡ 0) }
+    // Over some bytes, at the first of them.
+    pub fn new(rest: &'a [u8], kinds: Kind) -> Reader<'a>
+        ensures { (result.rest ≡ rest.entry) × (result.kinds ≡ kinds) }
     {
-        Reader { src, at: 0 }
+        Reader { rest, kinds }
     }
 
-    // Moved on to another place of the same bytes.
-    pub fn moved(self, at: usize) -> Reader<'a>
-        ensures { (result.src ≡ self.entry.src) × (result.at ≡ at) }
+    // How many bytes are still to be read.
+    pub fn left(&self) -> usize
+        ensures { result ≡ length self.now.rest.now }
     {
-        Reader { src: self.src, at }
-    }
-
-    // The entry where it stands.
-    pub fn next(self) -> Option<(Entry, usize)>
-        ensures { result ≡ walk_at self.entry.src.now self.entry.at }
-    {
-        entries::next_entry(self.src, self.at)
+        self.rest.len()
     }
 }
 
-// The entry at a place of some bytes.
-pub fn entry_at(s: &[u8], at: usize) -> Option<(Entry, usize)>
-    ensures { result ≡ walk_at s.now at }
-{
-    Reader::new(s).moved(at).next()
+impl<'a> Iterator for Reader<'a> {
+    ghost use Rattle.reader.specs.Reading.{GivesEntry};
+
+    type Item = Entry;
+
+    ghost next_gives = { GivesEntry };
+
+    // The entry that the bytes begin with; none where they begin with no entry that the version has.
+    #[inline(always)]
+    fn next(&mut self) -> Option<Entry> {
+        let [code, ..] = self.rest else {
+            return None;
+        };
+        if *code > self.kinds as u8 {
+            return None;
+        }
+        entries::take_entry(&mut self.rest)
+    }
 }

@@ -1,3 +1,2 @@
--- What the methods of a weighing ask and say, and what a reading says.
-pub mod Moments
+-- What a reading says.
 pub mod Readings

@@ -3,10 +3,7 @@
 use mathlib.Core.Path.{◌≡◌, refl, sym, ◌∙◌, ap}
 use mathlib.Core.Bool.{true}
 use mathlib.Core.List.{List, [], ◌∷◌, ◌++◌}
-use Prim.Native.Nat.{ℕ, ◌+◌, ◌≤◌, ◌<◌, min}
-use Rattle.std.proofs.Math.Nat.{min-eq_left, min-eq_right}
-use native.Mathlib.Decide.{dec_le}
-use native.Mathlib.Omega.{arith}
+use Prim.Native.Nat.{ℕ, ◌+◌, ◌≤◌, ◌<◌}
 use lib.ListN.{length, take, get_or}
 use lib.Seq.{take_all}
 use Rattle.std.proofs.lemmas.List.{take_more}
@@ -32,14 +29,10 @@ pub held_more : (slots : List Entry) (i : ℕ) (d : Entry) → i < length slots 
 held_more slots i d h =
     rw (take_more slots i d h, replayed-more [] (take i slots) (get_or slots i d))
 
--- they end where the count does, or where the slots do
-pub held_all : (r : Record) (i : ℕ) → i ≡ min r.count 64 → length r.slots ≡ 64 → held_to r.slots i ≡ held_by r
-unfolding held_by slotted
-held_all r i e h =
-    elim (dec_le r.count 64) as (λ d. held_to r.slots i ≡ replayed [] (take r.count r.slots)) [
-      | yes k ↦ rw (e ∙ min-eq_left k) refl
-      | no k ↦ rw (e ∙ min-eq_right (omega arith), take_all r.count r.slots (omega arith), take_all 64 r.slots (omega arith)) refl
-    ]
+-- behind the last of those in use they are the list that the record holds
+pub held_all : (r : Record) (i : ℕ) → length (slotted r) ≤ i → held_to (slotted r) i ≡ held_by r
+unfolding held_by
+held_all r i h = rw (take_all i (slotted r) h)
 
 -- what is held was accepted, so there is little of it
 pub accepted_to : (slots : List Entry) (i : ℕ) → accepted (held_to slots i) ≡ true
@@ -54,9 +47,6 @@ pub held_most : (r : Record) → length (held_by r) ≤ 64
 held_most r = at_most_64 (held_by r) (held_accepted r)
 
 -- ---- with a record of the list
-
-pub begun : (s : Standing) → plainly s ≡ stands_in [] → ReplayedAs [] (record { log = record_of []; standing = s })
-begun s e = record { log = refl; stands = e }
 
 pub one_more : (slots : List Entry) (i : ℕ) (d : Entry) (s : Replayed) → i < length slots → ReplayedAs (kept_behind (held_to slots i) (get_or slots i d)) s → ReplayedAs (held_to slots (i + 1)) s
 one_more slots i d s h p = rw (held_more slots i d h) p

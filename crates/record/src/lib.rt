@@ -1,12 +1,12 @@
 #![tactic(auto)]
 
-// The record: a list of at most 64 accepted entries, and the calls on it. Each call replays the entries that the record holds, so
-// it answers for every value of the type, also for one that no call made.
-ghost use Rattle.std.specs.Prelude.{◌≡◌, [], ◌∷◌, ◌++◌};
+// The record: a list of at most 64 accepted entries, and the calls on it. Each call replays the entries that the record holds,
+// so it answers for every value of the type, also for one that no call made.
+ghost use Rattle.std.specs.Prelude.{◌≡◌, ◌<◌, [], ◌∷◌, ◌++◌};
 ghost use Rattle.paper.specs.Refusals.{entry_number};
 ghost use Rattle.paper.specs.Journal as journal;
 ghost use Rattle.paper.specs.Answers.{centre_answer};
-ghost use Rattle.record.specs.Held.{record_of, held_by, answered, kept_or, ReplayedAs};
+ghost use Rattle.record.specs.Held.{record_of, slotted, held_by, answered, kept_or, put, ReplayedAs};
 
 use judge::Standing;
 use paper::{CAPACITY, CentreOfGravity, Change, Entry, Paired, Refusal, Seat, Sheet, Weighing};
@@ -38,11 +38,9 @@ pub fn replay(r: &Record) -> Replayed
 {
     let mut log = Record::fresh();
     let mut standing = Standing::new();
-    for i in 0..r.count.min(CAPACITY) {
-        let e = r.slots[i];
-        if standing.add(e).is_ok() {
-            log.slots[log.count] = e;
-            log.count += 1;
+    for e in r.entries() {
+        if standing.add(*e).is_ok() {
+            log.push(*e);
         }
     }
     Replayed { log, standing }
@@ -59,15 +57,30 @@ impl Record {
         }
     }
 
+    // The entries in the used slots, accepted or not.
+    pub fn entries(&self) -> &[Entry]
+        ensures { result.now ≡ slotted self.now }
+    {
+        &self.slots[..self.count.min(CAPACITY)]
+    }
+
+    // An entry in the first unused slot, whether its call accepts it or not. Inlined, since a call copies the entry once more.
+    #[inline(always)]
+    pub fn push(&mut self, e: Entry)
+        requires { self.old.count < 64 }
+        ensures { self.new ≡ put self.old e }
+    {
+        self.slots[self.count] = e;
+        self.count += 1;
+    }
+
     // An entry at the end, or why it is refused; then the record is as it was.
     fn add(&mut self, e: Entry) -> Result<(), Refusal>
         ensures { (result, self.new) ≡ kept_or (entry_number (held_by self.old) e) self.old (held_by self.old ++ e ∷ []) }
     {
         let mut now = replay(self);
         now.standing.add(e)?;
-        let at = now.log.count;
-        now.log.slots[at] = e;
-        now.log.count = at + 1;
+        now.log.push(e);
         *self = now.log;
         Ok(())
     }
@@ -111,16 +124,11 @@ impl Record {
     pub fn undo(&mut self) -> Result<(), Refusal>
         ensures { (result, self.new) ≡ answered self.old journal.undo }
     {
-        let now = replay(self);
-        let n = now.log.count;
-        if n == 0 {
-            return Err(Refusal::Empty);
-        }
-        let last = n - 1;
-        let mut next = now.log;
-        next.slots[last] = UNUSED;
-        next.count = last;
-        *self = next;
+        let mut log = replay(self).log;
+        let last = log.count.checked_sub(1).ok_or(Refusal::Empty)?;
+        log.slots[last] = UNUSED;
+        log.count = last;
+        *self = log;
         Ok(())
     }
 

@@ -7,12 +7,11 @@ use native.Mathlib.Nat.{div-add-mod'}
 use native.Mathlib.Omega.{arith}
 use lib.Dec.{leb, eqb}
 use borrow.Author.Tests.{eqb-true}
-use Rattle.paper.specs.declared.Row.{Row}
-use Rattle.paper.specs.declared.Row.TheVariants.{Range, Blank}
+use Rattle.std.specs.Prelude.{Some, None}
 use Rattle.paper.specs.declared.Sheet.{Sheet}
 use Rattle.paper.specs.declared.Seat.{Seat}
 use Rattle.paper.specs.Record.{Balance}
-use Rattle.paper.specs.Rows.{up_to, is_step, good, row_of, row}
+use Rattle.paper.specs.Rows.{Row, up_to, is_step, good, row_of, row}
 use Rattle.paper.specs.Placard.{RowFits}
 use Rattle.planes.specs.Plane.{kept_at}
 use Rattle.planes.proofs.Searches.{found, row_of_same}
@@ -41,5 +40,5 @@ module _ (s : Sheet) (f : Seat) (b : Balance) (r w : ℕ) (x : Span) (all : AllO
 
 -- both ends of a row fit their fields
 pub row_fits : (y : Row) (q : ℕ → Bool) (n : ℕ) → n ≤ 500000 → y ≡ row_of q n → RowFits y
-row_fits (Range lo hi) q n h e = let f = found q n lo hi (sym e) in (omega (arith, f.2), omega (arith, f.3))
-row_fits Blank q n h e = tt
+row_fits (Some (lo, hi)) q n h e = let f = found q n lo hi (sym e) in (omega (arith, f.2), omega (arith, f.3))
+row_fits None q n h e = tt

@@ -1,31 +1,36 @@
 // The record's calls by letters.
 use crate::reread::{G, first_version, read_again};
 use crate::sample::Fields;
-use crate::texts::split_once;
+use crate::texts::{parted, text};
+use lines::read_full;
 use paper::Refusal;
 use record::Record;
 use std::io;
+use std::io::Read;
+
+// The longest text of cases that is read in one.
+const CASES: usize = 65536;
 
 // The fields of an ordinary entry of each kind.
-const WEIGHING: &[u8] = b"m1 p300000 q30000 a10000 b500000 n100000";
+const WEIGHING: &str = "m1 p300000 q30000 a10000 b500000 n100000";
 
-const HANGING: &[u8] = b"m3 p355 q90 a50 b13350 n0";
+const HANGING: &str = "m3 p355 q90 a50 b13350 n0";
 
-const LIGHT: &[u8] = b"m1 p200000 q0 a0 b1 n100000";
+const LIGHT: &str = "m1 p200000 q0 a0 b1 n100000";
 
-const PAIRED: &[u8] = b"m1 p300000 q30000 P300001 Q30010 a10000 b500000 n100000";
+const PAIRED: &str = "m1 p300000 q30000 P300001 Q30010 a10000 b500000 n100000";
 
 // A sheet of nine rows.
-const SHEET: &[u8] = b"F25000 A42500 D380000 W450000 N240000 l55000 \
+const SHEET: &str = "F25000 A42500 D380000 W450000 N240000 l55000 \
     a-47500 m110000 s1000 b10000 n100000 t50000 c30000 o100000 u50000";
 
 // A sheet of one row that limits nothing but the front load.
-const LAX_SHEET: &[u8] =
-    b"F-2000000 A2000000 D2000000 W2000000 N0 l0 a0 m500000 s1000 b0 n0 t1 c0 o0 u1";
+const LAX_SHEET: &str =
+    "F-2000000 A2000000 D2000000 W2000000 N0 l0 a0 m500000 s1000 b0 n0 t1 c0 o0 u1";
 
-const CHANGE: &[u8] = b"c1000 a5000 f0";
+const CHANGE: &str = "c1000 a5000 f0";
 
-const SEAT: &[u8] = b"l-50000 h-45000";
+const SEAT: &str = "l-50000 h-45000";
 
 // A fresh record in the place of another.
 fn afresh(log: &mut Record) -> Result<(), Refusal> {
@@ -34,59 +39,64 @@ fn afresh(log: &mut Record) -> Result<(), Refusal> {
 }
 
 // A call: its letter, and the fields that stand behind it.
-fn called(log: &mut Record, call: &[u8]) -> Result<(), Refusal> {
-    let [letter, other @ ..] = call else {
-        return afresh(log);
-    };
+fn called(log: &mut Record, call: &str) -> io::Result<Result<(), Refusal>> {
+    let (letter, other) = call.split_at_checked(1).ok_or(io::ErrorKind::InvalidData)?;
     let by = |ordinary| Fields { ordinary, other };
-    match *letter {
-        b'w' => log.weigh(by(WEIGHING).weighing()),
-        b'v' => log.weigh(by(HANGING).weighing()),
-        b'u' => log.weigh(by(LIGHT).weighing()),
-        b'p' => log.weigh_paired(by(PAIRED).paired()),
-        b's' => log.install(by(SHEET).sheet()),
-        b'l' => log.install(by(LAX_SHEET).sheet()),
-        b'c' => log.change(by(CHANGE).change()),
-        b'a' => log.adjust_seat(by(SEAT).seat()),
-        b'r' => read_again(log),
-        b'g' => file::read(log, &G),
-        b'x' => file::read(log, &G[..88]),
-        b'o' => file::read(log, &first_version()),
-        b'-' => log.undo(),
-        _ => afresh(log),
-    }
+    Ok(match letter {
+        "w" => log.weigh(by(WEIGHING).weighing()?),
+        "v" => log.weigh(by(HANGING).weighing()?),
+        "u" => log.weigh(by(LIGHT).weighing()?),
+        "p" => log.weigh_paired(by(PAIRED).paired()?),
+        "s" => log.install(by(SHEET).sheet()?),
+        "l" => log.install(by(LAX_SHEET).sheet()?),
+        "c" => log.change(by(CHANGE).change()?),
+        "a" => log.adjust_seat(by(SEAT).seat()?),
+        "r" => read_again(log),
+        "g" => file::read(log, &G),
+        "x" => file::read(log, &G[..88]),
+        "o" => file::read(log, &first_version()),
+        "-" => log.undo(),
+        "=" => afresh(log),
+        _ => return Err(io::ErrorKind::InvalidData.into()),
+    })
 }
 
-// Calls one after the other, a comma or a line feed behind each. The answer is the last one's.
-pub fn played(log: &mut Record, calls: &[u8]) -> Result<(), Refusal> {
+// Calls one after the other, with a comma between two. The answer is the last one's.
+fn played(log: &mut Record, calls: &str) -> io::Result<Result<(), Refusal>> {
     let mut last = Ok(());
-    for call in calls.split_inclusive(|x| *x == b',' || *x == b'\n') {
-        last = called(log, call);
+    for call in calls.split_terminator(',') {
+        last = called(log, call)?;
     }
-    last
+    Ok(last)
 }
 
-// What stands before the colon of a line, and the calls behind the colon and a space. A line with no colon is both.
-pub fn head_and_calls(line: &[u8]) -> (&[u8], &[u8]) {
-    if let Some((head, [_, calls @ ..])) = split_once(line, b':') {
-        (head, calls)
-    } else {
-        (line, line)
-    }
-}
-
-// The lines of a text in turn, each with its line feed, and the record that goes from each to the next, a fresh one at first.
-pub fn each_line<F: FnMut(&mut Record, &[u8]) -> io::Result<()>>(
+// The cases of a text in turn, a line for each: a head, a colon, a space, and calls that go on from the record that the line
+// before left, a fresh one at first. Handed on are that record, the head, and what the last call answers. Empty lines and those
+// that begin with # are no cases.
+pub fn each_case<F: FnMut(&mut Record, &str, Result<(), Refusal>) -> io::Result<()>>(
     s: &[u8],
     mut act: F,
 ) -> io::Result<()>
     requires { F.IsAlwaysCallable act }
 {
     let mut log = Record::fresh();
-    for line in s.split_inclusive(|x| *x == b'\n') {
-        if line.ends_with(b"\n") {
-            act(&mut log, line)?;
+    for line in text(s)?.lines() {
+        if !line.is_empty() && !line.starts_with('#') {
+            let (head, calls) = parted(line, ':')?;
+            let last = played(&mut log, calls.trim_start())?;
+            act(&mut log, head, last)?;
         }
     }
     Ok(())
+}
+
+// The cases of a whole input in turn.
+pub fn run<R: Read, F: FnMut(&mut Record, &str, Result<(), Refusal>) -> io::Result<()>>(
+    from: &mut R,
+    act: F,
+) -> io::Result<()>
+    requires { F.IsAlwaysCallable act }
+{
+    let mut room = [0u8; CASES];
+    each_case(read_full(from, &mut room)?, act)
 }

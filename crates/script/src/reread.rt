@@ -1,5 +1,6 @@
 // Files that are read.
-use lines::first;
+use header::Version;
+use lines::written;
 use paper::Refusal;
 use record::Record;
 
@@ -13,14 +14,14 @@ pub const G: [u8; 89] = *b"\x00\x00\x00\x55\x02\x02\
 // The record's own file, read into a fresh record.
 pub fn read_again(log: &mut Record) -> Result<(), Refusal> {
     let mut out = [0u8; file::LONGEST];
-    let length = file::write(log, &mut out)?;
+    let s = written(file::write, log, &mut out)?;
     *log = Record::fresh();
-    file::read(log, first(&out, length))
+    file::read(log, s)
 }
 
 // G's file in version 1.
 pub fn first_version() -> [u8; 89] {
     let mut s = G;
-    s[4] = 1;
+    s[4] = Version::First as u8;
     s
 }

@@ -1,54 +1,49 @@
-// Parts of a text, and the numbers in it.
-ghost use Rattle.std.specs.Prelude.{◌≡◌, ◌∷◌, ◌++◌, ◌<◌, ◌≤◌, ◌*◌, length, IfSome};
+// What stands in a text: its parts, numbers, bytes as digits of sixteen. Where something else stands there, an error says so.
+ghost use Rattle.std.specs.Prelude.{◌≡◌, ◌∷◌, ◌++◌, ◌<◌, Ok, IfOk};
+ghost use Rattle.hex.specs.Hex.{decode_of};
 
-// What stands before the first such byte, and what behind it.
-pub fn split_once(s: &[u8], x: u8) -> Option<(&[u8], &[u8])>
-    ensures { IfSome result (λ parts. s.now ≡ parts.0.now ++ x ∷ parts.1.now) }
+use lines::lent;
+use std::io;
+use std::str::FromStr;
+
+// The text that bytes are.
+pub fn text(s: &[u8]) -> io::Result<&str>
+    ensures { IfOk result (λ t. t.now ≡ s.now) }
 {
-    let at = s.iter().position(|y| *y == x)?;
-    Some((&s[..at], &s[at + 1..]))
+    str::from_utf8(s).map_err(|_| io::ErrorKind::InvalidData.into())
 }
 
-// The number of the digits that a text begins with; it keeps ten.
-pub fn digits(s: &[u8]) -> u64
-    ensures { result < 10_000_000_000 }
+// What stands before the first such character, and what behind it.
+pub fn parted(text: &str, by: char) -> io::Result<(&str, &str)>
+    ensures { IfOk result (λ parts. by < 128 → text.now ≡ parts.0.now ++ by ∷ parts.1.now) }
 {
-    let mut n = 0;
-    for x in s {
-        let Some(digit) = char::from(*x).to_digit(10) else {
-            return n;
-        };
-        n = n % 1_000_000_000 * 10 + u64::from(digit);
+    text.split_once(by).ok_or(io::ErrorKind::InvalidData.into())
+}
+
+// The number that a text is.
+pub fn parsed<N: FromStr>(text: &str) -> io::Result<N>
+where
+    N::Err: Drop,
+    ensures { IfOk result (λ n. N.from_str_gives text.now (Ok n)) }
+{
+    text.parse().map_err(|_| io::ErrorKind::InvalidData.into())
+}
+
+// The number of a field. One below 0 is counted from 2^64; < is the least that has a sign, > the greatest.
+pub fn number(text: &str) -> io::Result<u64> {
+    match text {
+        "<" => Ok(i64::MIN.cast_unsigned()),
+        ">" => Ok(i64::MAX.cast_unsigned()),
+        _ if text.starts_with('-') => Ok(parsed::<i64>(text)?.cast_unsigned()),
+        _ => parsed(text),
     }
-    n
 }
 
-// The number that a text begins with. One below 0 is counted from 2^64; < is the least that has a sign, > the greatest.
-pub fn number(s: &[u8]) -> u64 {
-    match s {
-        [b'<', ..] => i64::MIN.cast_unsigned(),
-        [b'>', ..] => i64::MAX.cast_unsigned(),
-        [b'-', behind @ ..] => digits(behind).wrapping_neg(),
-        _ => digits(s),
-    }
-}
-
-// A digit of sixteen.
-fn digit(x: u8) -> u8
-    ensures { result < 16 }
+// The bytes that digits of sixteen spell, two for each, at the front of a buffer.
+pub fn decoded<'a>(digits: &str, out: &'a mut [u8]) -> io::Result<&'a mut [u8]>
+    ensures { IfOk result (λ s. decode_of digits.now ≡ Ok s.now) }
 {
-    if x < b'a' { x % 16 } else { (x % 16 + 9) % 16 }
-}
-
-// The bytes that digits of sixteen spell, two for each, at the front of a buffer, as many as it holds.
-pub fn spelled<'a>(digits: &[u8], out: &'a mut [u8]) -> &'a mut [u8]
-    ensures { length result.now * 2 ≤ length digits.now }
-{
-    let (pairs, _) = digits.as_chunks::<2>();
-    let n = pairs.len().min(out.len());
-    let bytes = &mut out[..n];
-    for (x, [high, low]) in bytes.iter_mut().zip(pairs) {
-        *x = digit(*high) * 16 + digit(*low);
-    }
-    bytes
+    let bytes = lent(out, digits.len() / 2);
+    hex::decode_to_slice(digits, bytes).map_err(|_| io::ErrorKind::InvalidData)?;
+    Ok(bytes)
 }

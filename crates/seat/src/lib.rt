@@ -11,13 +11,7 @@ use paper::{Arm, Refusal, Seat, Sheet};
 pub fn bad_ends(f: Seat) -> bool
     ensures { result ≡ bad_ends f }
 {
-    if !Arm::holds(f.lower) {
-        return true;
-    }
-    if !Arm::holds(f.higher) {
-        return true;
-    }
-    f.higher < f.lower
+    !(Arm::holds(f.lower) && Arm::holds(f.higher) && f.lower <= f.higher)
 }
 
 // A sheet in force, with the ends that its front arm lies between. Both were accepted.

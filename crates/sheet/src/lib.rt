@@ -3,6 +3,7 @@
 // Whether a data sheet is accepted, by the sheet alone.
 ghost use Rattle.std.specs.Prelude.{◌≡◌, false, ◌+◌, ◌/◌, ◌≤◌};
 ghost use Rattle.paper.specs.Numbers.{number_in};
+ghost use Rattle.paper.specs.Rows.{row_count};
 ghost use Rattle.paper.specs.Refusals.{first_number, bad_arms, bad_ranges, is_step_to, bad_rows, sheet_faults};
 
 use paper::{Arm, MOST_ROWS, Refusal, Sheet, Station, Weight};
@@ -11,60 +12,33 @@ use paper::{Arm, MOST_ROWS, Refusal, Sheet, Station, Weight};
 fn bad_arms(s: Sheet) -> bool
     ensures { result ≡ bad_arms s }
 {
-    if !Arm::holds(s.fwd) {
-        return true;
-    }
-    if !Arm::holds(s.aft) {
-        return true;
-    }
-    if !Arm::holds(s.front.arm) {
-        return true;
-    }
-    if !Arm::holds(s.rear.arm) {
-        return true;
-    }
-    !Arm::holds(s.water.arm)
+    !(Arm::holds(s.fwd)
+        && Arm::holds(s.aft)
+        && Arm::holds(s.front.arm)
+        && Arm::holds(s.rear.arm)
+        && Arm::holds(s.water.arm))
 }
 
 // Number 4's condition. DRY is a weight where WET is one.
 fn bad_ranges(s: Sheet) -> bool
     ensures { result ≡ bad_ranges s }
 {
-    if s.aft <= s.fwd {
-        return true;
-    }
-    if s.dry < 1 {
-        return true;
-    }
-    if s.wet < s.dry {
-        return true;
-    }
-    if Weight::MOST < s.wet {
-        return true;
-    }
-    if Weight::MOST < s.nlp {
-        return true;
-    }
-    if s.front.most < s.least {
-        return true;
-    }
-    if Weight::SEAT < s.front.most {
-        return true;
-    }
-    if Weight::SEAT < s.rear.most {
-        return true;
-    }
-    Weight::MOST < s.water.most
+    !(s.fwd < s.aft
+        && 1 <= s.dry
+        && s.dry <= s.wet
+        && s.wet <= Weight::MOST
+        && s.nlp <= Weight::MOST
+        && s.least <= s.front.most
+        && s.front.most <= Weight::SEAT
+        && s.rear.most <= Weight::SEAT
+        && s.water.most <= Weight::MOST)
 }
 
 // Whether a station's step is 1 .. most.
 fn step_holds(t: Station, most: u64) -> bool
     ensures { result ≡ is_step_to most t }
 {
-    if t.step < 1 {
-        return false;
-    }
-    t.step <= most
+    1 <= t.step && t.step <= most
 }
 
 // How many loads a station has on the placard.
@@ -72,7 +46,15 @@ pub fn loads(t: Station) -> u64
     requires { (1 ≤ t.step) × (t.most ≤ 2000000) }
     ensures { (result ≡ t.most / t.step + 1) × (result ≤ 2000001) }
 {
-    laws::over(t.most, t.step) + 1
+    t.most / t.step + 1
+}
+
+// How many rows a sheet has: one for each rear load with each water.
+pub fn rows(s: &Sheet) -> u64
+    requires { let s = s.now in (1 ≤ s.rear.step) × (s.rear.most ≤ 2000000) × (1 ≤ s.water.step) × (s.water.most ≤ 2000000) }
+    ensures { result ≡ row_count s.now }
+{
+    loads(s.rear) * loads(s.water)
 }
 
 // Number 5's condition, once the loads are in their ranges.
@@ -80,16 +62,10 @@ fn bad_rows(s: Sheet) -> bool
     requires { bad_ranges s ≡ false }
     ensures { result ≡ bad_rows s }
 {
-    if !step_holds(s.front, Weight::SEAT) {
-        return true;
-    }
-    if !step_holds(s.rear, Weight::SEAT) {
-        return true;
-    }
-    if !step_holds(s.water, Weight::MOST) {
-        return true;
-    }
-    MOST_ROWS < laws::times(loads(s.rear), loads(s.water))
+    !(step_holds(s.front, Weight::SEAT)
+        && step_holds(s.rear, Weight::SEAT)
+        && step_holds(s.water, Weight::MOST)
+        && rows(&s) <= MOST_ROWS)
 }
 
 // Whether a sheet is accepted behind 9, or why it is refused.

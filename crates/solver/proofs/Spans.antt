@@ -8,7 +8,7 @@ use lib.Dec.{leb, eqb}
 use borrow.Author.Tests.{leb-true, le-leb, eq-eqb, eqb-true}
 use Rattle.laws.specs.Tests.{same, isnt, both, left, right, in_span, span_lo, span_hi}
 use Rattle.laws.specs.declared.Sides.{Sides}
-use Rattle.paper.specs.declared.Row.TheVariants.{Range, Blank}
+use Rattle.std.specs.Prelude.{Some, None}
 use Rattle.paper.specs.Rows.{row_of}
 use Rattle.planes.proofs.Searches.{row_of-ends, row_of_none}
 use Rattle.solver.specs.declared.Span.{Span}
@@ -47,7 +47,7 @@ module _ (f : ℕ) (s : Span) (n : ℕ) (pos : 0 < f) (room : (k : ℕ) → with
       let e : k * f / f ≡ k = mul-div_cancel k pos in
       both (eqb (k * f % f) 0) (within s (k * f / f)) (eq-eqb (k * f % f) 0 (mul-mod_left k f)) (rw e w)
 
-  pub ends : s.lo ≤ s.hi → Range (s.lo * f) (s.hi * f) ≡ row_of (step_in f s) n
+  pub ends : s.lo ≤ s.hi → Some (s.lo * f, s.hi * f) ≡ row_of (step_in f s) n
   ends h =
       let first = in_span s.lo s.hi s.lo (le_refl s.lo) h in
       let last = in_span s.lo s.hi s.hi h (le_refl s.hi) in
@@ -60,5 +60,5 @@ module _ (f : ℕ) (s : Span) (n : ℕ) (pos : 0 < f) (room : (k : ℕ) → with
         λ j b e. let i = in-numbers j e in (i.1, i.2),
       ))
 
-  pub no_ends : s.hi < s.lo → Blank ≡ row_of (step_in f s) n
+  pub no_ends : s.hi < s.lo → None ≡ row_of (step_in f s) n
   no_ends h = sym (row_of_none (step_in f s) n (λ j b. isnt (step_in f s j) (λ e. let i = in-numbers j e in omega arith)))

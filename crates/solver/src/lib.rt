@@ -9,49 +9,39 @@ ghost use Rattle.solver.specs.Span.{within, step_in};
 use laws::Sides;
 use paper::Row;
 
-// The numbers of steps from lo to hi; none where hi is below lo.
+// The numbers of steps from lo to hi; none where hi is below lo, as in a range of Rust's.
 #[derive(Clone, Copy)]
 pub struct Span {
     pub lo: u64,
     pub hi: u64,
 }
 
-// The least number of bs that makes x or more.
-pub fn ceil_div(x: u64, b: u64) -> u64
-    requires { 0 < b }
-    ensures { (q : ℕ) → (result ≤ q → x ≤ q * b) × (x ≤ q * b → result ≤ q) }
-{
-    if x == 0 { 0 } else { (x - 1) / b + 1 }
-}
-
 impl Span {
     // No number.
     const NONE: Span = Span { lo: 1, hi: 0 };
 
-    // The part of a span whose numbers k make at.up + each.up * k at least at.down + each.down * k.
+    // The part of a span whose numbers k make at.up + each.up * k at least at.down + each.down * k: where 0 does, all or those up
+    // to some number, and else none or those from some number on.
     pub fn narrow(self, at: Sides, each: Sides) -> Span
         ensures { (k : ℕ) → within result k ≡ (within self k && leb (at.down + each.down * k) (at.up + each.up * k)) }
     {
-        if each.down <= each.up {
-            if at.down <= at.up {
+        if at.down <= at.up {
+            if each.down <= each.up {
                 return self;
             }
-            if each.up == each.down {
-                return Span::NONE;
-            }
-            let least = ceil_div(at.down - at.up, each.up - each.down);
+            let most = (at.up - at.down) / (each.down - each.up);
             return Span {
-                lo: least.max(self.lo),
-                hi: self.hi,
+                hi: most.min(self.hi),
+                ..self
             };
         }
-        if at.up < at.down {
+        if each.up <= each.down {
             return Span::NONE;
         }
-        let most = (at.up - at.down) / (each.down - each.up);
+        let least = (at.down - at.up).div_ceil(each.up - each.down);
         Span {
-            lo: self.lo,
-            hi: most.min(self.hi),
+            lo: least.max(self.lo),
+            ..self
         }
     }
 
@@ -61,9 +51,9 @@ impl Span {
         ensures { (n : ℕ) → ((k : ℕ) → within self k ≡ true → k * step ≤ n) → result ≡ row_of (step_in step self) n }
     {
         if self.lo <= self.hi {
-            Row::Range(self.lo * step, self.hi * step)
+            Some((self.lo * step, self.hi * step))
         } else {
-            Row::Blank
+            None
         }
     }
 }

@@ -1,5 +1,5 @@
--- What the proofs share: the parts of a file, its header judged, entries read in turn, and what a walk over them knows.
+-- What the proofs share: the parts of a file, its header judged, entries read in turn, and a judgement of the next.
 pub mod Parts
 pub mod Headers
 pub mod Reading
-pub mod Walks
+pub mod Judging

@@ -1,17 +1,20 @@
 -- The parts of a file: its header, the entries behind it, how long they are, and what writing them answers. Assumes nothing.
 use mathlib.Core.Path.{◌≡◌, refl, sym, ap, ◌∙◌}
-use mathlib.Core.List.{List, ◌∷◌, ◌++◌, append_assoc}
+use mathlib.Core.List.{List, [], ◌∷◌, ◌++◌, map, append_assoc}
 use Prim.Native.Nat.{ℕ, ◌+◌, ◌-◌, ◌≤◌, ◌<◌}
 use native.Mathlib.Omega.{arith}
 use lib.ListN.{length, drop, length-append}
 use borrow.Author.Tests.{lt-ltb, le-ltb}
 use Rattle.std.specs.Prelude.{Ok, Err}
+use Rattle.laws.specs.Lists.{map-append}
 use Rattle.paper.specs.declared.Entry.{Entry}
 use Rattle.paper.specs.declared.Refusal.TheVariants as refusal
 use Rattle.paper.specs.Numbers.{refusal_of}
-use Rattle.paper.specs.File.{bytes_of, body_as, file_as, version, file_bytes}
+use Rattle.paper.specs.Rows.{joined}
+use Rattle.paper.specs.File.{bytes_of, entry_bytes, body_as, file_as, version, file_bytes}
 use Rattle.paper.specs.Refusals.{first_number, writing_number}
 use Rattle.paper.specs.Answers.{over, written_by, written_answer}
+use Rattle.paper.proofs.Lists.{joined-last}
 use Rattle.format.specs.Numbers.{length-bytes}
 use Rattle.header.specs.Header.{header_of}
 use Rattle.header.proofs.Putting.{length_header}
@@ -34,6 +37,12 @@ file_size es =
 pub entries_behind : (v : ℕ) (es : List Entry) (r : List ℕ) → drop 6 (file_as v es ++ r) ≡ bytes_in es ++ r
 unfolding file_as body_as bytes_of
 entries_behind v es r = refl
+
+-- with one entry more
+pub length_in : (es : List Entry) (e : Entry) → length (bytes_in (es ++ e ∷ [])) ≡ length (bytes_in es) + length (entry_bytes e)
+length_in es e =
+    ap length (ap joined (map-append entry_bytes es (e ∷ [])) ∙ joined-last (map entry_bytes es) (entry_bytes e))
+    ∙ length-append (bytes_in es) (entry_bytes e)
 
 -- ---- what writing answers
 

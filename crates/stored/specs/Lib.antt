@@ -1,3 +1,3 @@
--- The kinds of a version, and what is found in a file.
-pub mod Kinds
+-- What is found in a file, and what is known on the way.
 pub mod Found
+pub mod Walks

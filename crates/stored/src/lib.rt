@@ -1,70 +1,52 @@
 #![tactic(auto)]
 
 // A stored file: what stands in it, found by one walk over its entries. No record is made.
-ghost use Rattle.std.specs.Prelude.{◌≡◌, drop};
-ghost use Rattle.paper.specs.Numbers.{code_of};
+ghost use Rattle.std.specs.Prelude.{◌+◌, List, ℕ};
+ghost use Rattle.paper.specs.declared.Entry.{Entry};
 ghost use Rattle.paper.specs.Refusals.{file_of};
-ghost use Rattle.stored.specs.Kinds.{entries_to, walk_to};
 ghost use Rattle.stored.specs.Found.{Finds};
+ghost use Rattle.stored.specs.Walks.{Walked, Goes};
 
-use header::HEADER;
 use judge::Standing;
-use paper::{CAPACITY, Entry, Kind};
+use paper::Entry;
+use reader::Reader;
 
-// What the file of a record says: what stands in it, the place of the last entry (behind the header where there is none) and the
-// place behind it.
+// One step of a walk over a file: the next entry, judged against what stands; none where there is no file.
+#[inline(always)]
+pub fn pass(entries: &mut Reader, standing: &mut Standing) -> Option<Entry>
+    ensures { (xs : List ℕ) (es : List Entry) (n : ℕ) → Walked xs es (n + 1) entries.old standing.old → Goes xs es n result entries.new standing.new }
+{
+    let entry = entries.next()?;
+    standing.add(entry).ok()?;
+    Some(entry)
+}
+
+// What the file of a record says: what stands in it, the place of the last entry and the place behind it.
 #[derive(Clone, Copy)]
 pub struct Contents {
     pub standing: Standing,
-    pub last: usize,
+    pub last: Option<usize>,
     pub end: usize,
-}
-
-// The entry at a place, where it is of a kind up to `kinds`.
-pub fn entry_to(s: &[u8], at: usize, kinds: Kind) -> Option<(Entry, usize)>
-    ensures { result ≡ walk_to (code_of kinds) s.now at }
-{
-    let (entry, place) = reader::entry_at(s, at)?;
-    if kinds < entry.kind() {
-        return None;
-    }
-    Some((entry, place))
-}
-
-// What stands behind the header, judged entry by entry: just as many entries as the count says, none of a kind above `kinds`,
-// and no byte over.
-fn survey_entries(s: &[u8], kinds: Kind, count: usize) -> Option<Contents>
-    ensures { Finds (entries_to (code_of kinds) count (drop 6 s.now)) result }
-{
-    let mut standing = Standing::new();
-    let mut last = HEADER;
-    let mut end = HEADER;
-    for _ in 0..count {
-        let (entry, place) = entry_to(s, end, kinds)?;
-        standing.add(entry).ok()?;
-        last = end;
-        end = place;
-    }
-    if end < s.len() {
-        return None;
-    }
-    Some(Contents {
-        standing,
-        last,
-        end,
-    })
 }
 
 // What stands in some bytes, where they are the file of a record.
 pub fn survey(s: &[u8]) -> Option<Contents>
     ensures { Finds (file_of s.now) result }
 {
-    if !header::is_headed(s) {
+    let (header, rest) = header::take_header(s)?;
+    let mut entries = Reader::new(rest, header.version.last_kind());
+    let mut standing = Standing::new();
+    let mut last = None;
+    for _ in 0..header.count {
+        last = Some(s.len() - entries.left());
+        pass(&mut entries, &mut standing)?;
+    }
+    if 0 < entries.left() {
         return None;
     }
-    let count = s[5] as usize;
-    if CAPACITY < count {
-        return None;
-    }
-    survey_entries(s, header::last_kind(s[4]), count)
+    Some(Contents {
+        standing,
+        last,
+        end: s.len(),
+    })
 }

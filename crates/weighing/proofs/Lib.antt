@@ -1,2 +1,2 @@
--- What the proofs share: sums over two readings.
-pub mod Sums
+-- What the proofs share: the distances of two readings.
+pub mod Distances

@@ -6,7 +6,7 @@ ghost use Rattle.paper.specs.Numbers.{number_in};
 ghost use Rattle.paper.specs.Record as paper;
 ghost use Rattle.paper.specs.Refusals.{bad_distance, weighing_faults, first_number};
 ghost use Rattle.reading.specs.Readings.{Says, InGrams};
-ghost use Rattle.weighing.specs.Readings.{both, paired_distances};
+ghost use Rattle.weighing.specs.Readings.{both, reading_of, paired_distances};
 ghost use Rattle.balance.specs.Balance.{plain, Bounded};
 
 use balance::Balance;
@@ -47,25 +47,25 @@ impl Readings for Paired {
     ghost same_distances = { paired_distances };
 
     fn first(self) -> Weighing {
-        Weighing {
-            m: self.m,
-            p: self.p,
-            q: self.q,
-            a: self.a,
-            b: self.b,
-            n: self.n,
-        }
+        reading(self, self.p, self.q)
     }
 
     fn second(self) -> Weighing {
-        Weighing {
-            m: self.m,
-            p: self.p2,
-            q: self.q2,
-            a: self.a,
-            b: self.b,
-            n: self.n,
-        }
+        reading(self, self.p2, self.q2)
+    }
+}
+
+// A reading of a paired weighing.
+fn reading(x: Paired, p: u64, q: u64) -> Weighing
+    ensures { result ≡ reading_of x p q }
+{
+    Weighing {
+        m: x.m,
+        p,
+        q,
+        a: x.a,
+        b: x.b,
+        n: x.n,
     }
 }
 
@@ -93,15 +93,10 @@ fn added(first: Reading, second: Reading) -> Balance
     requires { InGrams first × InGrams second }
     ensures { ((v w : _) → Says v first → Says w second → plain result ≡ paper.weighed (both v w)) × Bounded 1 result }
 {
-    let total = first.total + second.total;
-    let aft = first.aft + second.aft;
-    let fore = first.fore + second.fore;
-    let nonlifting = first.nonlifting + second.nonlifting;
     Balance {
-        total,
-        aft,
-        fore,
-        nonlifting,
+        total: first.total + second.total,
+        moment: first.moment + second.moment,
+        nonlifting: first.nonlifting + second.nonlifting,
     }
 }
 

@@ -1,4 +1,3 @@
--- What the proofs share: one value more, an entry's text in its two parts, and how long and of which bytes it is.
-pub mod Turns
+-- What the proofs share: an entry's text in its parts, and how long and of which bytes it is.
 pub mod Parts
 pub mod Plain

@@ -1,22 +1,19 @@
--- An entry's text in the two parts that the code puts: the kind's name, and the values behind it. Assumes nothing.
-use mathlib.Core.Path.{◌≡◌, refl, sym}
-use mathlib.Core.List.{List, ◌++◌, map, append_assoc}
-use Prim.Native.Nat.{ℕ, ◌+◌, ◌-◌, ◌≤◌}
+-- Values put one behind the other, by recursion on them; and how many there are. Assumes nothing.
+use mathlib.Core.Path.{◌≡◌, refl, sym, ◌∙◌, ap}
+use mathlib.Core.List.{List, [], ◌∷◌, ◌++◌, append_assoc, append-nil}
+use Prim.Native.Nat.{ℕ, ◌^◌, ◌≤◌, ◌<◌}
 use native.Mathlib.Omega.{arith}
-use lib.IntN.{ℤ, pos}
-use lib.ListN.{length, take, replicate, length-append}
-use lib.Seq.{take_at}
+use lib.IntN.{ℤ}
+use lib.Signed.{mag}
+use lib.ListN.{length}
+use mir.Syntax.{w64}
+use mir.Val.{hbits, to_z, of_z}
+use mir.Facts.{to_z-of_z}
 use Rattle.paper.specs.declared.Entry.{Entry}
 use Rattle.paper.specs.declared.Entry.TheVariants as entry
-use Rattle.paper.specs.File.{kind_of, values_of}
+use Rattle.paper.specs.File.{values_of}
 use Rattle.paper.specs.Rows.{joined}
-use Rattle.values.specs.declared.Values.{Values}
-use Rattle.wording.specs.Texts.{name_of, spaced, entry_text}
-use Rattle.values.specs.Places.{values_in}
-
--- values one behind the other, a space before each
-abbrev pub values_text : List ℤ → List ℕ
-values_text vs = joined (map spaced vs)
+use Rattle.wording.specs.Texts.{spaced, values_text}
 
 -- no kind has more than fifteen values
 pub values_few : (e : Entry) → length (values_of e) ≤ 15
@@ -26,24 +23,26 @@ values_few (entry.Change x) = omega arith
 values_few (entry.Paired x) = omega arith
 values_few (entry.Seat f) = omega arith
 
-pub length-text : (e : Entry) → length (entry_text e) ≡ length (name_of (kind_of e)) + length (values_text (values_of e))
-unfolding entry_text
-length-text e = length-append (name_of (kind_of e)) (values_text (values_of e))
+-- values put one by one, each behind a space
+unfoldable pub put_all : List ℤ → List ℕ → List ℕ
+put_all [] s = s
+put_all (v ∷ vs) s = put_all vs (s ++ spaced v)
 
--- an entry's values as the code holds them
-module _ (e : Entry) (v : Values) (x : v ≡ values_in e) where
-  values_held : take v.count v.places ≡ values_of e
-  values_held = rw x (take_at (values_of e) (replicate (15 - length (values_of e)) (pos 0)) (length (values_of e)) refl)
+pub all_put : (vs : List ℤ) (s : List ℕ) → put_all vs s ≡ s ++ values_text vs
+unfolding put_all joined
+all_put [] s = sym (append-nil s)
+all_put (v ∷ vs) s = all_put vs (s ++ spaced v) ∙ append_assoc s (spaced v) (values_text vs)
 
-  pub count_few : v.count ≤ 15
-  count_few = rw x (values_few e)
+-- a value, and those behind it
+pub then_put : (v : ℤ) (vs : List ℤ) (s text end : List ℕ) → text ≡ s ++ spaced v → end ≡ put_all vs text → end ≡ put_all (v ∷ vs) s
+unfolding put_all
+then_put v vs s text end e h = h ∙ ap (put_all vs) e
 
-  -- name and values together
-  pub length_parts : length (name_of (kind_of e)) + length (values_text (take v.count v.places)) ≡ length (entry_text e)
-  length_parts = rw values_held (sym (length-text e))
+-- a signed one, as it is held
+pub signed_put : (x : ℤ) (s text : List ℕ) → mag x < 2 ^ hbits w64 → text ≡ s ++ spaced (to_z w64 (of_z w64 x)) → text ≡ s ++ spaced x
+signed_put x s text h p = rw (to_z-of_z {w = w64} {z = x} (record { sfits = h })) at p
 
-  -- the name is written, and the values behind it
-  pub text-put : (s next last : List ℕ) → next ≡ s ++ name_of (kind_of e) → last ≡ next ++ values_text (take v.count v.places) → last ≡ s ++ entry_text e
-  unfolding entry_text
-  text-put s next last n l =
-      rw (l, n, values_held) (append_assoc s (name_of (kind_of e)) (values_text (values_of e)))
+-- none is left
+pub none_put : (s : List ℕ) → s ≡ put_all [] s
+unfolding put_all
+none_put s = refl

@@ -1,10 +1,11 @@
 -- The text of an entry: a line of the logbook.
-use Rattle.std.specs.Prelude.{cond, List, [], ◌∷◌, ◌++◌, map, ℕ, eqb, ℤ}
+use Rattle.std.specs.Prelude.{cond, List, [], ◌∷◌, ◌++◌, map, ℕ, ◌^◌, ◌<◌, eqb, ℤ, nat_abs}
+use Rattle.laws.specs.Lists.{Each}
 use Rattle.paper.specs.declared.Entry.{Entry}
 use Rattle.paper.specs.Rows.{joined}
 use Rattle.paper.specs.Placard.{space}
 use Rattle.paper.specs.File.{kind_of, values_of}
-use Rattle.numerals.specs.Numerals.{numeral}
+use Rattle.numerals.specs.Numerals.{numeral, most_digits}
 
 -- the name of a kind of entry: weighing, sheet, change, paired, seat
 unfoldable pub name_of : ℕ → List ℕ
@@ -18,6 +19,14 @@ name_of k =
 abbrev pub spaced : ℤ → List ℕ
 spaced v = space ∷ numeral v
 
+-- values one behind the other
+abbrev pub values_text : List ℤ → List ℕ
+values_text vs = joined (map spaced vs)
+
 -- the text: the kind's name, and the values in the order of the file
 unfoldable pub entry_text : Entry → List ℕ
-entry_text e = name_of (kind_of e) ++ joined (map spaced (values_of e))
+entry_text e = name_of (kind_of e) ++ values_text (values_of e)
+
+-- each value has at most eighteen digits, so that it can be read
+abbrev pub Readable : Entry → Type 0
+Readable e = Each (λ (v : ℤ). nat_abs v < 10 ^ most_digits) (values_of e)

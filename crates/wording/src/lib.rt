@@ -1,47 +1,144 @@
 #![tactic(auto)]
 
 // The text of an entry, as a line of the logbook has it.
-ghost use Rattle.std.specs.Prelude.{◌≡◌, ◌++◌, map, ◌+◌, ◌≤◌, length, take};
+ghost use Rattle.std.specs.Prelude.{◌≡◌, ◌++◌, map, ◌+◌, ◌≤◌, pos, length};
 ghost use Rattle.arrayvec.specs.ArrayString.{array_string_len};
-ghost use Rattle.paper.specs.Numbers.{code_of};
-ghost use Rattle.paper.specs.Rows.{joined};
-ghost use Rattle.values.specs.Places.{Readable};
-ghost use Rattle.wording.specs.Texts.{name_of, spaced, entry_text};
+ghost use Rattle.paper.specs.declared.Entry.{Entry};
+ghost use Rattle.paper.specs.declared.Entry.TheVariants as entry;
+ghost use Rattle.paper.specs.File.{values_of};
+ghost use Rattle.wording.specs.Texts.{spaced, values_text, entry_text};
 
 use arrayvec::ArrayString;
-use paper::{Entry, Kind};
-use values::Values;
+use paper::{Change, Entry, Paired, Seat, Sheet, Weighing};
 
-// The name of a kind.
-#[tactic(auto, unfolding(crate::specs::Texts::name_of))]
-fn name_of(kind: Kind) -> &'static str
-    ensures { result.now ≡ name_of (code_of kind) }
+// What stands before each value.
+const SPACE: char = ' ';
+
+// Room for every text: a name of at most eight bytes, and fifteen numbers of at most 21 with a space before each.
+const LONGEST: usize = 338;
+
+pub type Text = ArrayString<LONGEST>;
+
+// A kind of entry, by what its values are.
+trait Worded {
+    ghost entry: { Self → Entry };
+
+    // Writes them behind a name, in the order of the file.
+    fn put_values(self, text: &mut Text)
+        requires { array_string_len text.old ≤ 8 }
+        ensures { text.new.bytes ≡ text.old.bytes ++ values_text (values_of (entry self)) };
+}
+
+// Writes a number behind what stands in a text, and a space before it.
+fn put_number(text: &mut Text, x: i64)
+    requires { array_string_len text.old + 22 ≤ 338 }
+    ensures behind { text.new.bytes ≡ text.old.bytes ++ spaced x }
+    ensures few { array_string_len text.new ≤ array_string_len text.old + 22 }
 {
-    match kind {
-        Kind::Weighing => "weighing",
-        Kind::Sheet => "sheet",
-        Kind::Change => "change",
-        Kind::Paired => "paired",
-        Kind::Seat => "seat",
+    text.push(SPACE);
+    numerals::put_number(text, x);
+}
+
+// The same of one that has no sign.
+fn put_size(text: &mut Text, n: u64)
+    requires { array_string_len text.old + 22 ≤ 338 }
+    ensures behind { text.new.bytes ≡ text.old.bytes ++ spaced (pos n) }
+    ensures few { array_string_len text.new ≤ array_string_len text.old + 22 }
+{
+    text.push(SPACE);
+    numerals::put_size(text, n);
+}
+
+impl Worded for Weighing {
+    ghost entry = { λ x. entry.Weighing x };
+
+    fn put_values(self, text: &mut Text) {
+        put_size(text, self.m);
+        put_size(text, self.p);
+        put_size(text, self.q);
+        put_number(text, self.a);
+        put_size(text, self.b);
+        put_size(text, self.n);
     }
 }
 
-// Writes values behind what stands in a text, a space before each.
-fn put_values<const N: usize>(text: &mut ArrayString<N>, v: Values)
-    requires { (v.count ≤ 15) × (array_string_len text.old + length (joined (map spaced (take v.count v.places))) ≤ N) }
-    ensures { text.new.bytes ≡ text.old.bytes ++ joined (map spaced (take v.count v.places)) }
-{
-    for x in &v.places[..v.count] {
-        text.push(' ');
-        numerals::put_number(text, *x);
+impl Worded for Sheet {
+    ghost entry = { λ x. entry.Sheet x };
+
+    fn put_values(self, text: &mut Text) {
+        put_number(text, self.fwd);
+        put_number(text, self.aft);
+        put_size(text, self.dry);
+        put_size(text, self.wet);
+        put_size(text, self.nlp);
+        put_number(text, self.front.arm);
+        put_size(text, self.least);
+        put_size(text, self.front.most);
+        put_size(text, self.front.step);
+        put_number(text, self.rear.arm);
+        put_size(text, self.rear.most);
+        put_size(text, self.rear.step);
+        put_number(text, self.water.arm);
+        put_size(text, self.water.most);
+        put_size(text, self.water.step);
     }
 }
 
-// Writes the text of an entry there.
-pub fn put_entry<const N: usize>(text: &mut ArrayString<N>, e: Entry)
-    requires { Readable e × (array_string_len text.old + length (entry_text e) ≤ N) }
-    ensures { text.new.bytes ≡ text.old.bytes ++ entry_text e }
+impl Worded for Change {
+    ghost entry = { λ x. entry.Change x };
+
+    fn put_values(self, text: &mut Text) {
+        put_number(text, self.c);
+        put_number(text, self.arm);
+        put_size(text, self.flag);
+    }
+}
+
+impl Worded for Paired {
+    ghost entry = { λ x. entry.Paired x };
+
+    fn put_values(self, text: &mut Text) {
+        put_size(text, self.m);
+        put_size(text, self.p);
+        put_size(text, self.q);
+        put_size(text, self.p2);
+        put_size(text, self.q2);
+        put_number(text, self.a);
+        put_size(text, self.b);
+        put_size(text, self.n);
+    }
+}
+
+impl Worded for Seat {
+    ghost entry = { λ x. entry.Seat x };
+
+    fn put_values(self, text: &mut Text) {
+        put_number(text, self.lower);
+        put_number(text, self.higher);
+    }
+}
+
+// The name of a kind, and behind it the values of an entry of that kind.
+fn named<W: Worded>(name: &str, x: W) -> Text
+    requires { length name.now ≤ 8 }
+    ensures { result.bytes ≡ name.now ++ values_text (values_of (W.entry x)) }
 {
-    text.push_str(name_of(e.kind()));
-    put_values(text, values::values_of(e));
+    let mut text = Text::new();
+    text.push_str(name);
+    x.put_values(&mut text);
+    text
+}
+
+// The text of an entry.
+#[tactic(auto, unfolding(crate::specs::Texts::entry_text, crate::specs::Texts::name_of))]
+pub fn text_of(e: Entry) -> Text
+    ensures { result.bytes ≡ entry_text e }
+{
+    match e {
+        Entry::Weighing(w) => named("weighing", w),
+        Entry::Sheet(s) => named("sheet", s),
+        Entry::Change(x) => named("change", x),
+        Entry::Paired(x) => named("paired", x),
+        Entry::Seat(f) => named("seat", f),
+    }
 }

@@ -1,3 +1,2 @@
--- What the proofs share: one byte more of a number that is read, and two's complement.
-pub mod Turns
+-- What the proofs share: two's complement.
 pub mod Signs

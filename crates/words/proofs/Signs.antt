@@ -1,22 +1,9 @@
--- Two's complement, either way: by the side of 0 that a number is on. Assumes nothing.
-use Rattle.std.proofs.Common.{◌≡◌, ℕ, suc, ◌+◌, ◌-◌, ◌*◌, ◌%◌, ◌^◌, ◌<◌, ◌≤◌, ℤ, pos, negsuc, ◌-ℤ◌, sym, ap, ◌∙◌, arith, le-leb}
+-- The number that a word stands for, by the side of 0 that it is on. Assumes nothing.
+use Rattle.std.proofs.Common.{◌≡◌, ℕ, ◌+◌, ◌*◌, ◌%◌, ◌<◌, ◌≤◌, pos, ◌-ℤ◌, ◌∙◌, arith, le-leb}
 use native.Mathlib.Decide.{dec_lt}
 use borrow.Author.Tests.{lt-leb}
 use Rattle.laws.specs.Z.{zs, is_nat, is_sub}
-use Rattle.paper.specs.File.{complement, signed_word, field_value}
-
--- ---- the word of a number
-
-pub from_nought : (k : ℕ) (x : ℤ) (n : ℕ) → pos n ≡ x → n ≡ complement k x
-from_nought k x n e = ap (complement k) e
-
-pub below-nought : (k : ℕ) (x : ℤ) (n m : ℕ) → x ≡ negsuc n → m ≡ 256 ^ k - suc n → m ≡ complement k x
-below-nought k x n m e f = f ∙ sym (ap (complement k) e)
-
-pub far_below : (x : ℤ) (n : ℕ) → x ≡ negsuc n → 4294967296 ≤ n → 0 ≡ complement 4 x
-far_below x n e h = rw e (omega arith)
-
--- ---- the number of a word
+use Rattle.paper.specs.File.{signed_word, field_value}
 
 low_word : (n : ℕ) → n < 2147483648 → pos n ≡ field_value signed_word n
 unfolding field_value

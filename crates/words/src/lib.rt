@@ -1,25 +1,24 @@
 #![tactic(auto)]
 
 // Numbers as the file spells them: bytes with the highest first, and two's complement in four of them.
-ghost use Rattle.std.specs.Prelude.{◌≡◌, ◌+◌, ◌≤◌, length, take, drop};
+ghost use Rattle.std.specs.Prelude.{◌≡◌, ◌+◌, ◌≤◌, length};
 ghost use Rattle.laws.specs.Written.{written};
 ghost use Rattle.paper.specs.File.{bytes_of, number_of, complement, signed_word, field_value};
 
 use std::num::wrapping_add_u32;
 
+// How many words there are.
+const WORDS: u64 = 4_294_967_296;
+
 // The first word that stands for a number below 0.
 const MIDDLE: u32 = 2_147_483_648;
 
-// The number that `width` bytes from `at` on spell.
-pub fn number_at(s: &[u8], at: usize, width: usize) -> u32
-    requires { (width ≤ 4) × (at + width ≤ length s.now) }
-    ensures { result ≡ number_of (take width (drop at s.now)) }
+// The number that four bytes spell.
+#[inline(always)]
+pub fn number_of(bytes: [u8; 4]) -> u32
+    ensures { result ≡ number_of bytes }
 {
-    let mut n: u32 = 0;
-    for i in 0..width {
-        n = n * 256 + s[at + i] as u32;
-    }
-    n
+    u32::from_be_bytes(bytes)
 }
 
 // The last `width` bytes of a number, from `at` on. It counts down by hand, since each byte is what division leaves of the rest:
@@ -41,14 +40,10 @@ pub fn put_number(out: &mut [u8], at: usize, width: usize, n: u64)
 pub fn word_of(x: i64) -> u64
     ensures { result ≡ complement 4 x }
 {
-    if 0 <= x {
-        return laws::size(x);
-    }
-    let below = laws::under(x);
-    if below < 4_294_967_296 {
-        4_294_967_295 - below
+    if x < 0 {
+        WORDS.saturating_sub(x.unsigned_abs())
     } else {
-        0
+        x.unsigned_abs()
     }
 }
 
@@ -56,10 +51,7 @@ pub fn word_of(x: i64) -> u64
 pub fn long_of(x: i64) -> u64
     ensures { result ≡ complement 8 x }
 {
-    if 0 <= x {
-        return laws::size(x);
-    }
-    18_446_744_073_709_551_615 - laws::under(x)
+    x.cast_unsigned()
 }
 
 // The signed number that a word stands for: words from the middle on are below 0. There is no branch in it, so that the four

@@ -1,17 +1,15 @@
 -- What the table of cases does not say: mistakes that the paper warns of, rows for nobody, the files of G, of K, of a paired
 -- weighing and of a seat in each version, and a journal. Each is computed from the definitions.
-use Rattle.std.specs.Prelude.{◌≡◌, refl, Bool, true, false, ◌&&◌, List, [], ◌∷◌, ◌++◌, ℕ, ℤ, pos, take, replicate, Ok}
+use Rattle.std.specs.Prelude.{◌≡◌, refl, Bool, true, false, ◌&&◌, Some, List, [], ◌∷◌, ◌++◌, ℕ, ℤ, pos, take, replicate, Ok}
 use Rattle.std.proofs.Math.Option.{Option, none, some, or_else, bind}
 use Rattle.laws.specs.Lists.{Each}
 use Rattle.paper.specs.declared.Sheet.{Sheet}
-use Rattle.paper.specs.declared.Row.{Row}
-use Rattle.paper.specs.declared.Row.TheVariants.{Range}
 use Rattle.paper.specs.declared.Weighing.{Weighing}
 use Rattle.paper.specs.declared.Entry.{Entry}
 use Rattle.paper.specs.declared.Entry.TheVariants as entry
 use Rattle.paper.specs.Units.{is_weight, is_arm, half_grams}
 use Rattle.paper.specs.Record.{Balance, total_of, moment_of, alike, paired, weighed, with, changes_of, last_weighing, balance_of, sheet_of, is_none, sheet_stands}
-use Rattle.paper.specs.Rows.{laden, at_most, lines, all, any_fails, keeps_at, breaks_at, is_step, smallest, largest, row_of, joined, row_count}
+use Rattle.paper.specs.Rows.{Row, laden, at_most, lines, all, any_fails, keeps_at, breaks_at, is_step, smallest, largest, row_of, joined, row_count}
 use Rattle.paper.specs.File.{bytes_of, number_of, field_bytes, field_value, layout_of, entry_of, fields_bytes, entry_bytes, body_as, file_as, file_bytes, take_number, take_fields, take_entry, take_entries, is_version, last_kind, kinds_to, take_body, laid_out}
 use Rattle.paper.specs.Refusals.{first_number, full, bad_reading, bad_distance, bad_part, weighing_faults, weighing_number, bad_arms, bad_ranges, bad_rows, sheet_faults, sheet_number, change_faults, change_number, bad_ends, seat_faults, seat_number}
 use Rattle.paper.specs.Refusals.{undo_number, entry_number, accepted_after, accepted, file_of, reading_number}
@@ -26,7 +24,7 @@ full_only : Sheet → ℤ → Balance → ℕ → ℕ → Row
 unfolding row_of smallest largest is_step keeps_at all lines laden with at_most half_grams
 full_only s arm b r w = row_of (λ (p : ℕ). is_step s p && keeps_at s arm b r p w) s.front.most
 
-full_only_lem : full_only (astir_sheet (minus 47500)) (minus 47500) (weighed (alike astir)) 0 50000 ≡ Range 64000 92000
+full_only_lem : full_only (astir_sheet (minus 47500)) (minus 47500) (weighed (alike astir)) 0 50000 ≡ Some (64000, 92000)
 unfolding full_only weighed total_of moment_of
 full_only_lem = refl
 

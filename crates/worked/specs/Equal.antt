@@ -1,27 +1,26 @@
 -- Tests that two rows, two lines or two answers of a placard are equal, and that what passes is. Assumes nothing.
-use Rattle.std.specs.Prelude.{◌≡◌, refl, Bool, true, false, ◌&&◌, List, ℕ, eqb, Result, Ok, Err}
+use Rattle.std.specs.Prelude.{◌≡◌, refl, Bool, true, false, ◌&&◌, Some, None, List, ℕ, eqb, Result, Ok, Err}
 use Rattle.std.proofs.Common.{eqb-true, sym, ap, ◌∙◌}
 use Rattle.laws.specs.Tests.{left, right}
 use Rattle.laws.specs.Equal.{eq_list, same_list}
-use Rattle.paper.specs.declared.Row.{Row}
-use Rattle.paper.specs.declared.Row.TheVariants.{Range, Blank}
+use Rattle.paper.specs.Rows.{Row}
 use Rattle.paper.specs.declared.Placard.{Placard}
 use Rattle.paper.specs.declared.Refusal.{Refusal}
 use Rattle.paper.specs.Numbers.{number_of, refusal_of}
 use Rattle.paper.proofs.Numbers.{number_back}
 
 abbrev pub eq_row : Row → Row → Bool
-eq_row (Range a b) (Range c d) = eqb a c && eqb b d
-eq_row (Range a b) Blank = false
-eq_row Blank (Range c d) = false
-eq_row Blank Blank = true
+eq_row (Some (a, b)) (Some (c, d)) = eqb a c && eqb b d
+eq_row (Some (a, b)) None = false
+eq_row None (Some (c, d)) = false
+eq_row None None = true
 
 pub same_row : (x y : Row) → eq_row x y ≡ true → x ≡ y
-same_row (Range a b) (Range c d) e =
+same_row (Some (a, b)) (Some (c, d)) e =
     rw (eqb-true a c (left (eqb a c) (eqb b d) e), eqb-true b d (right (eqb a c) (eqb b d) e))
-same_row (Range a b) Blank e = cc
-same_row Blank (Range c d) e = cc
-same_row Blank Blank e = refl
+same_row (Some (a, b)) None e = cc
+same_row None (Some (c, d)) e = cc
+same_row None None e = refl
 
 -- rear load, water and row
 abbrev pub Line : Type 0

@@ -1,7 +1,7 @@
 -- A row by a shorter search than its definition's, so that it can be computed: only multiples of the front step are tried, each
 -- with none of the water and with all of it, which decide (`both_ends`), and each line at its own end of the seat. It is the same
 -- row, and the placard of such rows is the same placard. Assumes nothing.
-use Rattle.std.specs.Prelude.{◌≡◌, refl, Bool, true, cond, ◌&&◌, List, map, ℕ, zero, suc, ◌*◌, ◌/◌, ◌%◌, ◌≤◌, leb, eqb}
+use Rattle.std.specs.Prelude.{◌≡◌, refl, Bool, true, cond, ◌&&◌, Some, None, Result, Ok, List, map, ℕ, zero, suc, ◌*◌, ◌/◌, ◌%◌, ◌≤◌, leb, eqb}
 use Rattle.std.proofs.Common.{sym, ap, ◌∙◌, true≢false, div-add-mod', div-mul-le_self, mul-le-mul_right, arith, eqb-true}
 use Rattle.std.proofs.Math.Path.{fun_ext}
 use Rattle.std.proofs.Math.Option.{Option, none, some}
@@ -10,14 +10,11 @@ use Rattle.std.specs.Float.Ieee.Nearest.{div_mono}
 use Rattle.laws.specs.Tests.{isnt, left}
 use Rattle.paper.specs.declared.Sheet.{Sheet}
 use Rattle.paper.specs.declared.Seat.{Seat}
-use Rattle.paper.specs.declared.Row.{Row}
-use Rattle.paper.specs.declared.Row.TheVariants.{Range, Blank}
-use Rattle.std.specs.Prelude.{Result, Ok}
 use Rattle.paper.specs.declared.Placard.{Placard}
 use Rattle.paper.specs.declared.Refusal.{Refusal}
 use Rattle.paper.specs.Units.{half_grams}
 use Rattle.paper.specs.Record.{Balance, ends_of, with}
-use Rattle.paper.specs.Rows.{laden, at_most, is_step, good, smallest, largest, row_of, row, joined, loads, row_count}
+use Rattle.paper.specs.Rows.{Row, laden, at_most, is_step, good, smallest, largest, row_of, row, joined, loads, row_count}
 use Rattle.paper.specs.Placard.{line, text, text_length, blank_of, blank_count}
 use Rattle.paper.specs.Answers.{over, placard_given, placard_refused, placard_by}
 use Rattle.planes.proofs.Searches.{Outcome, a_range, a_blank, outcome, row_of-ends, row_of_none}
@@ -31,8 +28,8 @@ use Rattle.planes.proofs.Rows.{good_is, is_step_lem, limits_of}
 -- ---- multiples of f only
 
 abbrev times : ℕ → Row → Row
-times f (Range lo hi) = Range (lo * f) (hi * f)
-times f Blank = Blank
+times f (Some (lo, hi)) = Some (lo * f, hi * f)
+times f None = None
 
 fewer : (f j n : ℕ) → j ≤ n → j / f ≤ n / f
 fewer zero j n h = rw (div-zero j, div-zero n) (omega arith)

@@ -1,6 +1,6 @@
 -- "Plates worked through": the cases A to K in one table, and some beside them. antt computes a test of all of them at once, and
 -- what passes the test holds of the definitions. Assumes nothing.
-use Rattle.std.specs.Prelude.{◌≡◌, refl, Bool, true, false, not, ◌&&◌, List, [], ◌∷◌, ◌++◌, map, ℕ, ◌≤◌, leb, eqb, ℤ, pos, length, replicate}
+use Rattle.std.specs.Prelude.{◌≡◌, refl, Bool, true, false, not, ◌&&◌, Some, None, Result, Ok, Err, List, [], ◌∷◌, ◌++◌, map, ℕ, ◌≤◌, leb, eqb, ℤ, pos, length, replicate}
 use Rattle.std.proofs.Common.{sym, ap, ◌∙◌, true≢false, eqb-true, leb-true}
 use Rattle.std.proofs.Math.Option.{Option, none, some, or_else}
 use Prim.Native.Char.{code}
@@ -12,18 +12,15 @@ use Rattle.laws.specs.Lists.{Each}
 use Rattle.paper.specs.declared.Weighing.{Weighing}
 use Rattle.paper.specs.declared.Sheet.{Sheet}
 use Rattle.paper.specs.declared.Seat.{Seat}
-use Rattle.paper.specs.declared.Row.{Row}
-use Rattle.paper.specs.declared.Row.TheVariants.{Range, Blank}
 use Rattle.paper.specs.declared.Entry.{Entry}
 use Rattle.paper.specs.declared.Entry.TheVariants as entry
-use Rattle.std.specs.Prelude.{Result, Ok, Err}
 use Rattle.paper.specs.declared.Placard.{Placard}
 use Rattle.paper.specs.declared.Refusal.{Refusal}
 use Rattle.paper.specs.declared.Refusal.TheVariants.{ShortBuffer}
 use Rattle.paper.specs.Numbers.{refusal_of}
 use Rattle.paper.specs.Units.{is_weight, is_arm, half_grams}
 use Rattle.paper.specs.Record.{Balance, total_of, moment_of, alike, weighed, with, changed, changed_by, changes_of, last_weighing, balance_of, centre_of, sheet_of, is_none, sheet_stands, seat_of, ends_of}
-use Rattle.paper.specs.Rows.{every_arm, keeps_at, row, below, loads_of, joined, loads, row_count}
+use Rattle.paper.specs.Rows.{Row, every_arm, keeps_at, row, below, loads_of, joined, loads, row_count}
 use Rattle.paper.specs.Placard.{feed, digits, kilograms, ends, line, text, text_length, blank_of}
 use Rattle.paper.specs.File.{bytes_of, field_bytes, layout_of, fields_bytes, entry_bytes, body_as, file_as, file_bytes}
 use Rattle.paper.specs.Refusals.{first_number, full, is_total, is_non_lifting, bad_reading, bad_distance, bad_part, weighing_faults, weighing_number, bad_arms, bad_ranges, bad_rows, sheet_faults, sheet_number, afterwards, is_change, bad_change, change_faults, change_number, bad_ends, seat_faults, seat_number}
@@ -68,16 +65,16 @@ printed (l ∷ ls) = bytes l ++ feed ∷ printed ls
 -- G's rows
 abbrev G_rows : List Line
 G_rows =
-    (0, 0, Range 71000 92000) ∷
-    (0, 50000, Range 71000 92000) ∷
-    (0, 100000, Blank) ∷ []
+    (0, 0, Some (71000, 92000)) ∷
+    (0, 50000, Some (71000, 92000)) ∷
+    (0, 100000, None) ∷ []
 
 -- J's with a seat from -126,000 to -120,000
 abbrev J_between_rows : List Line
 J_between_rows =
-    (0, 0, Range 70000 110000) ∷
-    (55000, 0, Range 55000 107000) ∷
-    (110000, 0, Range 40000 80000) ∷ []
+    (0, 0, Some (70000, 110000)) ∷
+    (55000, 0, Some (55000, 107000)) ∷
+    (110000, 0, Some (40000, 80000)) ∷ []
 
 -- J's placard
 abbrev J_lines : List String
@@ -109,24 +106,24 @@ table =
     "0000.000 0100.000 -------- --------" ∷ []
     ) ∷
     -- H
-    a_row H 0 0 (Range 64000 87000) ∷
+    a_row H 0 0 (Some (64000, 87000)) ∷
     begins H 63000 63001 ∷
     -- I
-    rows I ((0, 0, Blank) ∷ (0, 50000, Blank) ∷ (0, 100000, Blank) ∷ []) ∷
+    rows I ((0, 0, None) ∷ (0, 50000, None) ∷ (0, 100000, None) ∷ []) ∷
     -- J
     rows J (
-    (0, 0, Range 69000 110000) ∷
-    (55000, 0, Range 54000 109000) ∷
-    (110000, 0, Range 40000 80000) ∷ []
+    (0, 0, Some (69000, 110000)) ∷
+    (55000, 0, Some (54000, 109000)) ∷
+    (110000, 0, Some (40000, 80000)) ∷ []
     ) ∷
     -- K
     files [] (0 ∷ 0 ∷ 0 ∷ 2 ∷ 2 ∷ 0 ∷ []) ∷
     -- beside the paper's: the Astir at 288,000 and 288,001 g has room for 91 kg below DRY and not for 92, and at two equal readings
     -- it has G's rows
     rows gram_more (
-    (0, 0, Range 71000 91000) ∷
-    (0, 50000, Range 71000 91000) ∷
-    (0, 100000, Blank) ∷ []
+    (0, 0, Some (71000, 91000)) ∷
+    (0, 50000, Some (71000, 91000)) ∷
+    (0, 100000, None) ∷ []
     ) ∷
     rows equals G_rows ∷
     -- seats: equal ends at the sheet's arm are G; J has its smallest loads by the higher end and its largest by the lower one, also
@@ -135,7 +132,7 @@ table =
     rows (G_between (minus 47500) (minus 47500)) G_rows ∷
     rows (J_between (minus 126000) (minus 120000)) J_between_rows ∷
     rows (J_weighed (minus 126000) (minus 120000)) J_between_rows ∷
-    rows (G_between (minus 160000) (minus 35000)) ((0, 0, Blank) ∷ (0, 50000, Blank) ∷ (0, 100000, Blank) ∷ []) ∷
+    rows (G_between (minus 160000) (minus 35000)) ((0, 0, None) ∷ (0, 50000, None) ∷ (0, 100000, None) ∷ []) ∷
     rows (G_ended (minus 160000) (minus 35000)) G_rows ∷
     -- J into a buffer with two bytes more, of exactly its length, and with one too few
     places J (replicate 110 7) (Ok (record { bytes = 108; rows = 3; blank = 0 })) (printed J_lines ++ 7 ∷ 7 ∷ []) ∷
@@ -143,10 +140,10 @@ table =
     places J (replicate 107 7) (Err ShortBuffer) (replicate 107 7) ∷
     -- loads that are no whole kilograms
     rows quarters (
-    (0, 0, Range 70250 91250) ∷
-    (0, 33333, Range 70250 78500) ∷
-    (12345, 0, Range 65250 79500) ∷
-    (12345, 33333, Range 65250 66250) ∷ []
+    (0, 0, Some (70250, 91250)) ∷
+    (0, 33333, Some (70250, 78500)) ∷
+    (12345, 0, Some (65250, 79500)) ∷
+    (12345, 33333, Some (65250, 66250)) ∷ []
     ) ∷
     prints quarters (
     "0000.000 0000.000 0070.250 0091.250" ∷
@@ -155,12 +152,12 @@ table =
     "0012.345 0033.333 0065.250 0066.250" ∷ []
     ) ∷
     rows grams (
-    (0, 0, Range 6 25) ∷
-    (0, 7, Range 6 23) ∷
-    (0, 14, Range 6 20) ∷
-    (3, 0, Range 7 25) ∷
-    (3, 7, Range 7 23) ∷
-    (3, 14, Range 7 21) ∷ []
+    (0, 0, Some (6, 25)) ∷
+    (0, 7, Some (6, 23)) ∷
+    (0, 14, Some (6, 20)) ∷
+    (3, 0, Some (7, 25)) ∷
+    (3, 7, Some (7, 23)) ∷
+    (3, 14, Some (7, 21)) ∷ []
     ) ∷
     prints grams (
     "0000.000 0000.000 0000.006 0000.025" ∷

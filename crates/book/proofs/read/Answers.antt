@@ -1,7 +1,6 @@
--- `book::read` meets its contract. The loop's invariant: the lines that came are read (`ReadTo`), and the iterator that the loop
--- began with gives the lines of the text, numbered from 0. A line's turn goes by what it says (`Places`). Assumes nothing.
+-- `book::read` meets its contract. The loop's invariant: the lines that came are read (`ReadTo`), and the iterator that the
+-- loop began with gives the lines of the text, numbered from 0. A line's turn goes by what it says (`Places`). Assumes nothing.
 use Rattle.std.proofs.Common.{rules, tests, ◌≡◌, refl, sym, ap, ◌∙◌, eqb, Result, Err}
-use native.Mathlib.Omega.{arith}
 use Prim.Native.Nat.{ℕ, ◌+◌}
 use Rattle.std.proofs.lemmas.Iterator.Consumers.{YieldsList-at, YieldsList-from_enumerate, YieldsList-turn, YieldsList-end}
 use Rattle.std.proofs.lemmas.Iterator.Splits.{YieldsList-from_slice_split}
@@ -60,29 +59,17 @@ returns-in_err-map_err-in-Entry c =
     let why : c.in_err-map_err-in-Entry.field-0.0 ≡ failure.Refused (c.in-Some.i + 1) f.0 = search rules in
     rw (told, why) (refused_entry l c.loop-i.invariant.0 c.in-Entry.e (sym c.read_line.ensures ∙ c.in-Entry.is) _ _ c.add.ensures f.0 (sym (ap number_in f.1)))
 
-pub offset_bounds-log-log : goal.offset_bounds-log-log
-offset_bounds-log-log c =
-    let l = line_here c.args.s.now _ _ _ (YieldsList-turn c.loop-i.invariant.1 c.loop-i.yielded _ c.loop-i.yielded_by _ _ (c.in-Some.i, c.in-Some.text) c.in-Some.is c.next.ensures.steps) in
-    let few = entry_room l c.loop-i.invariant.0 c.in-Entry.e (sym c.read_line.ensures ∙ c.in-Entry.is) _ _ c.add.ensures (ok_number c.add.result (search rules)) in
-    omega (arith, few)
-
-pub bounds-log-log : goal.bounds-log-log
-bounds-log-log c =
+pub push-requires : goal.push-requires
+push-requires c =
     let l = line_here c.args.s.now _ _ _ (YieldsList-turn c.loop-i.invariant.1 c.loop-i.yielded _ c.loop-i.yielded_by _ _ (c.in-Some.i, c.in-Some.text) c.in-Some.is c.next.ensures.steps) in
     entry_room l c.loop-i.invariant.0 c.in-Entry.e (sym c.read_line.ensures ∙ c.in-Entry.is) _ _ c.add.ensures (ok_number c.add.result (search rules))
-
-pub overflow_add-log : goal.overflow_add-log
-overflow_add-log c =
-    let l = line_here c.args.s.now _ _ _ (YieldsList-turn c.loop-i.invariant.1 c.loop-i.yielded _ c.loop-i.yielded_by _ _ (c.in-Some.i, c.in-Some.text) c.in-Some.is c.next.ensures.steps) in
-    let few = entry_room l c.loop-i.invariant.0 c.in-Entry.e (sym c.read_line.ensures ∙ c.in-Entry.is) _ _ c.add.ensures (ok_number c.add.result (search rules)) in
-    omega (arith, few)
 
 pub loop-i-preserved : goal.loop-i-preserved
 loop-i-preserved c =
     let l = line_here c.args.s.now _ _ _ (YieldsList-turn c.loop-i.invariant.1 c.loop-i.yielded _ c.loop-i.yielded_by _ _ (c.in-Some.i, c.in-Some.text) c.in-Some.is c.next.ensures.steps) in
     let more = length_push c.loop-i.yielded (c.in-Some.i, c.in-Some.text) in
     let none = ok_number c.add.result (search rules) in
-    (rw more (added_entry l c.loop-i.invariant.0 c.in-Entry.e (sym c.read_line.ensures ∙ c.in-Entry.is) _ _ c.add.ensures none c.add.new.self refl), c.loop-i.invariant.1)
+    (rw (more, c.push.ensures) (added_entry l c.loop-i.invariant.0 c.in-Entry.e (sym c.read_line.ensures ∙ c.in-Entry.is) _ _ c.add.ensures none c.add.new.self refl), c.loop-i.invariant.1)
 
 pub returns : goal.returns
 returns c =

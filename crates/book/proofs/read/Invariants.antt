@@ -1,5 +1,5 @@
--- `book::read` meets its contract. The loop's invariant: the lines that came are read (`ReadTo`), and the iterator that the loop
--- began with gives the lines of the text, numbered from 0. A line's turn goes by what it says (`Places`). Assumes nothing.
+-- `book::read` meets its contract. The loop's invariant: the lines that came are read (`ReadTo`), and the iterator that the
+-- loop began with gives the lines of the text, numbered from 0. A line's turn goes by what it says (`Places`). Assumes nothing.
 use mathlib.Core.List.{List}
 use Prim.Native.Nat.{ℕ}
 use lib.ListN.{length}

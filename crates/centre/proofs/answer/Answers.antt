@@ -24,5 +24,5 @@ pub returns : goal.returns
 unfolding stands_in
 returns c es w =
     let e = sym (ap (λ (o : Stands). o.balance) w) ∙ ap balance_in c.in_ok-b.ensures.ok_part in
-    rw (to_z-of_z {w = w64} (record { sfits = c.moment.type_inv }), to_z-of_z {w = w64} (record { sfits = c.centre.type_inv }), c.moment.ensures, c.centre.ensures)
+    rw (to_z-of_z {w = w64} (record { sfits = c.value.type_inv }), to_z-of_z {w = w64} (record { sfits = c.centre.type_inv }), c.value.ensures, c.centre.ensures)
     (sym (centre_some es (plain c.in_ok-b.b) e))

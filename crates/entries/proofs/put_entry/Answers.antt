@@ -16,7 +16,7 @@ returns-in-Weighing c =
     let a = c.args in
     let put = c.put_stored.ensures in (
       omega (arith, put.0, size_at a.e 1 21 (ap kind_of c.in-Weighing.is) total_weighing),
-      put.1 ∙ ap (λ (e : Entry). written a.out.now a.at (entry_bytes e)) (sym c.in-Weighing.is),
+      put.1 ∙ ap (λ (e : Entry). written a.out.now 0 (entry_bytes e)) (sym c.in-Weighing.is),
     )
 
 pub put_stored-requires-in-Sheet : goal.put_stored-requires-in-Sheet
@@ -28,7 +28,7 @@ returns-in-Sheet c =
     let a = c.args in
     let put = c.put_stored-in-Sheet.ensures in (
       omega (arith, put.0, size_at a.e 2 60 (ap kind_of c.in-Sheet.is) total_sheet),
-      put.1 ∙ ap (λ (e : Entry). written a.out.now a.at (entry_bytes e)) (sym c.in-Sheet.is),
+      put.1 ∙ ap (λ (e : Entry). written a.out.now 0 (entry_bytes e)) (sym c.in-Sheet.is),
     )
 
 pub put_stored-requires-in-Change : goal.put_stored-requires-in-Change
@@ -40,7 +40,7 @@ returns-in-Change c =
     let a = c.args in
     let put = c.put_stored-in-Change.ensures in (
       omega (arith, put.0, size_at a.e 3 9 (ap kind_of c.in-Change.is) total_change),
-      put.1 ∙ ap (λ (e : Entry). written a.out.now a.at (entry_bytes e)) (sym c.in-Change.is),
+      put.1 ∙ ap (λ (e : Entry). written a.out.now 0 (entry_bytes e)) (sym c.in-Change.is),
     )
 
 pub put_stored-requires-in-Paired : goal.put_stored-requires-in-Paired
@@ -52,7 +52,7 @@ returns-in-Paired c =
     let a = c.args in
     let put = c.put_stored-in-Paired.ensures in (
       omega (arith, put.0, size_at a.e 4 29 (ap kind_of c.in-Paired.is) total_paired),
-      put.1 ∙ ap (λ (e : Entry). written a.out.now a.at (entry_bytes e)) (sym c.in-Paired.is),
+      put.1 ∙ ap (λ (e : Entry). written a.out.now 0 (entry_bytes e)) (sym c.in-Paired.is),
     )
 
 pub put_stored-requires-in-Seat : goal.put_stored-requires-in-Seat
@@ -64,5 +64,5 @@ returns-in-Seat c =
     let a = c.args in
     let put = c.put_stored-in-Seat.ensures in (
       omega (arith, put.0, size_at a.e 5 8 (ap kind_of c.in-Seat.is) total_seat),
-      put.1 ∙ ap (λ (e : Entry). written a.out.now a.at (entry_bytes e)) (sym c.in-Seat.is),
+      put.1 ∙ ap (λ (e : Entry). written a.out.now 0 (entry_bytes e)) (sym c.in-Seat.is),
     )

@@ -1,6 +1,6 @@
 -- `entries::put_stored` meets its contract: the kind, and behind it the fields. Assumes nothing.
-use Rattle.std.proofs.Common.{ℕ, ◌+◌, List, set, ap, ◌∙◌, arith}
-use Rattle.laws.specs.Written.{written, written_behind}
+use Rattle.std.proofs.Common.{ℕ, List, set, ap, ◌∙◌, arith}
+use Rattle.laws.specs.Written.{written, written-part, written_behind}
 use Rattle.paper.specs.Numbers.{code_of}
 use Rattle.paper.specs.File.{values_of, fields_bytes}
 use Rattle.format.specs.Rows.{fields_at}
@@ -13,5 +13,5 @@ returns g c =
     let t = g.T.Stored in
     let xs : List ℕ = fields_bytes (fields_at t.kind) (values_of (t.entry a.x)) in (
       omega (arith, c.LENGTH.ensures),
-      c.put.ensures ∙ ap (λ (n : ℕ). written (set a.out.now a.at n) (a.at + 1) xs) (code a.kind) ∙ written_behind a.out.now a.at (code_of a.kind) xs (omega arith),
+      written-part (set a.out.now 0 _) _ xs 1 c.put.ensures ∙ ap (λ (n : ℕ). written (set a.out.now 0 n) 1 xs) (code a.kind) ∙ written_behind a.out.now 0 (code_of a.kind) xs (omega arith),
     )

@@ -1,31 +1,34 @@
--- `file::length_of` meets its contract: the bytes of each entry are counted in turn. Assumes nothing.
-use Rattle.std.proofs.Common.{sym, ap, ◌∙◌, length, ◌+◌, take_all}
-use mathlib.Core.List.{List}
-use native.Mathlib.Omega.{arith}
+-- `file::length_of` meets its contract: what each entry takes is added up, behind the header. Assumes nothing.
+use Rattle.std.proofs.Common.{◌≡◌, length, arith, rules, of_calls}
+use Rattle.std.proofs.lemmas.Iterator.{YieldsList-from_slice, YieldsList-from_map}
+use Rattle.std.proofs.lemmas.Iterator.Consumers.{sum_by_from_yields_List, fits_by_from_yields_list}
+use Rattle.std.specs.List.{sum_by}
 use Rattle.paper.specs.declared.Entry.{Entry}
-use Rattle.paper.specs.Rows.{joined}
-use Rattle.stored.specs.Found.{bytes_in}
+use Rattle.paper.specs.File.{entry_bytes}
 use Rattle.stored.proofs.Parts.{file_size}
-use Rattle.file.proofs.Slots.{counted, one_entry, bytes_most}
+use Rattle.file.proofs.Slots.{summed, summed_most}
 use Rattle.file.proofs.length_of.Goals as goal
 
-pub loop-e-init : goal.loop-e-init
-unfolding joined
-loop-e-init c = omega arith
+pub sum-requires : goal.sum-requires
+sum-requires c =
+    record {
+      can = search of_calls;
+      finite = search of_calls;
+      fits = fits_by_from_yields_list _ _ c.map.result _
+          (YieldsList-from_map _ (λ (e : Entry). length (entry_bytes e)) (YieldsList-from_slice c.args.list.now cc) c.map.ensures.closure (λ x r q k. search rules))
+          (omega (arith, summed_most c.args.list.now c.requires));
+    }
 
-pub overflow_add-length : goal.overflow_add-length
-overflow_add-length c =
-    let l = c.loop-e in
-    let k = one_entry c.args.list.now l.e-index _ c.length_of-length.result c.length_of-length.ensures in
-    omega (arith, bytes_most c.args.list.now l.e-index (omega arith), l.invariant, c.requires)
-
-pub loop-e-preserved : goal.loop-e-preserved
-loop-e-preserved c =
-    let l = c.loop-e in
-    counted c.args.list.now l.e-index _ l.length c.length_of-length.result (omega arith) l.invariant c.length_of-length.ensures
+pub overflow_add-result : goal.overflow_add-result
+overflow_add-result c =
+    let sum : c.sum.result ≡ sum_by (λ (e : Entry). length (entry_bytes e)) c.args.list.now =
+    sum_by_from_yields_List _ _ c.map.result _ c.sum.ensures.ran
+    (YieldsList-from_map _ (λ (e : Entry). length (entry_bytes e)) (YieldsList-from_slice c.args.list.now cc) c.map.ensures.closure (λ x r q k. search rules)) in
+    omega (arith, sum, summed_most c.args.list.now c.requires)
 
 pub returns : goal.returns
 returns c =
-    let l = c.loop-e in
-    let all = take_all l.e-index c.args.list.now (omega arith) in
-    l.invariant ∙ ap (λ (es : List Entry). 6 + length (bytes_in es)) all ∙ sym (file_size c.args.list.now)
+    let sum : c.sum.result ≡ sum_by (λ (e : Entry). length (entry_bytes e)) c.args.list.now =
+    sum_by_from_yields_List _ _ c.map.result _ c.sum.ensures.ran
+    (YieldsList-from_map _ (λ (e : Entry). length (entry_bytes e)) (YieldsList-from_slice c.args.list.now cc) c.map.ensures.closure (λ x r q k. search rules)) in
+    omega (arith, sum, summed c.args.list.now, file_size c.args.list.now)

@@ -7,7 +7,7 @@ use Rattle.paper.specs.Journal.{call_of, call_number}
 use Rattle.paper.proofs.Numbers.{positive}
 use Rattle.paper.proofs.Calls.{entry_number_lem, entry_added}
 use Rattle.stored.proofs.Parts.{file_size}
-use Rattle.stored.proofs.Walks.{entries_in, number_there, stands_then}
+use Rattle.stored.proofs.Judging.{entries_in, number_there, stands_then}
 use Rattle.front.proofs.Fronts.{held_file, held_room}
 use Rattle.lent.specs.Lent.{lent_file}
 use Rattle.lent.proofs.Answers.{none_held, refused_held, accepted_held}

@@ -1,5 +1,9 @@
 -- `lent::append` meets its contract: the entry is put behind the file, and the header says so. Assumes nothing.
+use mathlib.Core.Path.{ap}
+use Prim.Native.Nat.{◌+◌}
 use native.Mathlib.Omega.{arith}
+use Rattle.laws.specs.Written.{written-part}
+use Rattle.paper.specs.File.{entry_bytes}
 use Rattle.lent.proofs.Answers.{entry_short, entry_added}
 use Rattle.lent.proofs.append.Goals as goal
 
@@ -11,4 +15,4 @@ returns-then-buffer-end c v es n f =
 pub returns : goal.returns
 returns c v es n f =
     let a = c.args in
-    entry_added a.buffer.now v es a.e a.end c.requires.1 f _ _ _ _ (omega arith) n c.put_entry-behind.ensures.0 c.put_entry-behind.ensures.1 c.put_header.ensures
+    entry_added a.buffer.now v es a.e a.end c.requires.1 f _ _ _ _ (omega arith) n (ap (λ k. a.end + k) c.put_entry.ensures.0) (written-part a.buffer.now _ (entry_bytes a.e) a.end c.put_entry.ensures.1) c.put_header.ensures

@@ -2,9 +2,9 @@
 use Rattle.lent.proofs.Answers.{fresh_short, fresh_put}
 use Rattle.lent.proofs.fresh.Goals as goal
 
-pub returns-then-buffer-lt-HEADER : goal.returns-then-buffer-lt-HEADER
-returns-then-buffer-lt-HEADER c = fresh_short c.args.buffer.now c.if-buffer-lt-HEADER.true
+pub returns-then-buffer-lt-LENGTH : goal.returns-then-buffer-lt-LENGTH
+returns-then-buffer-lt-LENGTH c = fresh_short c.args.buffer.now c.if-buffer-lt-LENGTH.true
 
 pub returns : goal.returns
 returns c =
-    fresh_put c.args.buffer.now _ c.if-buffer-lt-HEADER.false c.put_header.ensures
+    fresh_put c.args.buffer.now _ c.if-buffer-lt-LENGTH.false c.put_header.ensures

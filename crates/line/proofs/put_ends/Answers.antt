@@ -3,15 +3,12 @@ use Rattle.paper.specs.Placard.{ends}
 use Rattle.line.specs.Word.{bytes}
 use Rattle.line.proofs.Fields.{pair_written}
 use Rattle.line.proofs.put_ends.Goals as goal
+use Rattle.line.proofs.put_ends.Goals.{in-Some, in-None}
 
-pub returns-in-Range : goal.returns-in-Range
-unfolding ends
-returns-in-Range c =
-    let a = c.args in
-    let w = c.in-Range in
-    rw w.is
-    (pair_written a.out.now c.put_pair.new.out a.at c.field.result c.field-in-Range.result w.lo w.hi c.field.ensures c.field-in-Range.ensures c.put_pair.ensures)
-
-pub returns-in-Blank : goal.returns-in-Blank
+pub returns : goal.returns
 unfolding ends bytes
-returns-in-Blank c = rw c.in-Blank.is c.put_pair-in-Blank.ensures
+returns c =
+    elim c.match-x.branch [
+      | in-Some w ↦ rw w.in-Some.is (pair_written c.args.out.now c.put_pair.new.out w.field.result w.field-in-Some.result w.in-Some.lo w.in-Some.hi w.field.ensures w.field-in-Some.ensures (rw w.lo-is at c.put_pair.ensures))
+      | in-None w ↦ rw w.in-None.is (rw w.lo-is at c.put_pair.ensures)
+    ]

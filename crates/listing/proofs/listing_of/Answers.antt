@@ -1,66 +1,52 @@
--- `listing::listing_of` meets its contract. The loop's invariant: the entries of the slots so far are listed, what stands in them
--- stands, and the iterator that the loop began with gives the used slots. Assumes nothing.
+-- `listing::listing_of` meets its contract. The loop's invariant: the entries so far are listed, and what stands in them
+-- stands. Assumes nothing.
 use borrow.Author.Rules.{rules}
-use mathlib.Core.Path.{ap, ◌∙◌}
+use mathlib.Core.Path.{◌≡◌, sym, ap, ◌∙◌}
+use Prim.Native.Nat.{◌<◌}
 use native.Mathlib.Omega.{arith}
-use lib.ListN.{length, take}
-use Rattle.std.proofs.lemmas.Iterator.{YieldsList-from_slice, YieldsList-from_take}
-use Rattle.std.proofs.lemmas.Iterator.Consumers.{YieldsList-at, YieldsList-turn, YieldsList-end}
-use Rattle.std.proofs.lemmas.List.{length_push}
-use Rattle.record.specs.Held.{replayed}
+use lib.ListN.{length}
+use Rattle.record.specs.Held.{slotted, replayed}
 use Rattle.record.proofs.Calls.{ok_number, err_number}
+use Rattle.record.proofs.Replays.{held_to, held_all}
 use Rattle.listing.specs.Listings.{listed_after, listing}
-use Rattle.listing.proofs.Slots.{passed, readable, lines-within, lines_more, stands_is, stands-more, all_slots}
+use Rattle.listing.proofs.Slots.{passed, lines-within, lines_more, stands_is, stands-more}
 use Rattle.listing.proofs.listing_of.Goals as goal
+use Rattle.listing.proofs.listing_of.Goals.{then-is_ok, else-is_ok}
 
 pub loop-e-init : goal.loop-e-init
 unfolding listing listed_after replayed
-loop-e-init c = (
-  c.new-standing.ensures,
-  c.new-text.ensures,
-  YieldsList-at c.into_iter-e-iterator.ensures.into_iter_gives
-      (YieldsList-from_take c.args.r.now.count
-      (YieldsList-at c.take-e-items.ensures.source (YieldsList-from_slice c.args.r.now.slots c.iter.ensures.rest))
-      c.take-e-items.ensures.count),
-)
+loop-e-init c = (c.new-standing.ensures, c.new-text.ensures)
 
 pub put_lines-requires : goal.put_lines-requires
 put_lines-requires c =
     let l = c.loop-e in
-    let slots = take c.args.r.now.count c.args.r.now.slots in
-    let here = YieldsList-turn l.invariant.2 l.yielded _ l.yielded_by _ _ c.in-Some.e c.in-Some.is c.next.ensures.steps in
+    let es = c.entries-e-items.result.now in
+    let here : l.e-index < length es = omega arith in
     let none = ok_number c.add.result (search rules) in
-    let within = lines-within slots _ _ _ _ _ here l.invariant.0 c.add.ensures none c.answer.result in
-    (readable slots _ _ _ _ _ here l.invariant.0 c.add.ensures none, omega (arith, within, ap length l.invariant.1))
+    omega (arith, lines-within es l.e-index _ _ _ _ here l.invariant.0 c.add.ensures none c.answer.result, ap length l.invariant.1)
 
 pub loop-e-preserved : goal.loop-e-preserved
 loop-e-preserved c =
     let l = c.loop-e in
-    let slots = take c.args.r.now.count c.args.r.now.slots in
-    let here = YieldsList-turn l.invariant.2 l.yielded _ l.yielded_by _ _ c.in-Some.e c.in-Some.is c.next.ensures.steps in
-    let more = length_push l.yielded c.in-Some.e in
-    let refused = err_number c.add.result (search rules) in (
-      rw more (stands-more slots _ _ _ _ _ here l.invariant.0 c.add.ensures),
-      rw (more, passed slots _ _ _ _ _ here l.invariant.0 c.add.ensures refused) l.invariant.1,
-      l.invariant.2,
-    )
-
-pub loop-e-preserved-then-is_ok : goal.loop-e-preserved-then-is_ok
-loop-e-preserved-then-is_ok c =
-    let l = c.loop-e in
-    let slots = take c.args.r.now.count c.args.r.now.slots in
-    let here = YieldsList-turn l.invariant.2 l.yielded _ l.yielded_by _ _ c.in-Some.e c.in-Some.is c.next.ensures.steps in
-    let more = length_push l.yielded c.in-Some.e in
-    let none = ok_number c.add.result (search rules) in
-    let comes_to = c.answer.ensures _ (stands_is slots _ _ _ _ _ here l.invariant.0 c.add.ensures none) in (
-      rw more (stands-more slots _ _ _ _ _ here l.invariant.0 c.add.ensures),
-      rw (c.put_lines.ensures, l.invariant.1, more)
-          (lines_more slots _ _ _ _ _ here l.invariant.0 c.add.ensures none c.answer.result comes_to),
-      l.invariant.2,
-    )
+    let es = c.entries-e-items.result.now in
+    let here : l.e-index < length es = omega arith in
+    let stands = stands-more es l.e-index _ _ _ _ here l.invariant.0 c.add.ensures in
+    elim c.if-is_ok.branch [
+      | then-is_ok w ↦
+          let none = ok_number _ (sym w.if-is_ok.ensures.value) in
+          let comes_to = w.answer.ensures _ (stands_is es l.e-index _ _ _ _ here l.invariant.0 c.add.ensures none) in (
+            stands,
+            rw (w.text-is, w.put_lines.ensures, l.invariant.1)
+                (lines_more es l.e-index _ _ _ _ here l.invariant.0 c.add.ensures none w.answer.result comes_to),
+          )
+      | else-is_ok w ↦
+          let refused = err_number _ (sym w.if-is_ok.ensures.value) in
+          (stands, rw (w.text-is, passed es l.e-index _ _ _ _ here l.invariant.0 c.add.ensures refused) l.invariant.1)
+    ]
 
 pub returns : goal.returns
 returns c =
     let l = c.loop-e in
-    let e = YieldsList-end l.invariant.2 l.yielded _ l.yielded_by _ _ c.in-None.is c.next.ensures.steps in
-    l.invariant.1 ∙ ap listing (all_slots c.args.r.now (length l.yielded) e.1)
+    let r = c.args.r.now in
+    let held : held_to (slotted r) l.e-index ≡ _ = held_all r l.e-index (omega (arith, ap length c.entries-e-items.ensures)) in
+    l.invariant.1 ∙ ap listing (rw (sym c.entries-e-items.ensures) at held)

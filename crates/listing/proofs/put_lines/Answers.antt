@@ -1,5 +1,5 @@
 -- `listing::put_lines` meets its contract: the entry's text, a line feed, and what follows the line. Assumes nothing.
-use mathlib.Core.Path.{ap}
+use mathlib.Core.Path.{◌≡◌, ap, ◌∙◌}
 use mathlib.Core.List.{[], ◌∷◌, ◌++◌, append_assoc}
 use Prim.Native.Nat.{ℕ}
 use native.Mathlib.Omega.{arith}
@@ -11,28 +11,33 @@ use Rattle.listing.specs.Listings.{remark, lines_of}
 use Rattle.listing.proofs.Sizes.{length-lines}
 use Rattle.listing.proofs.put_lines.Goals as goal
 
-pub put_entry-requires : goal.put_entry-requires
-put_entry-requires c =
-    (omega arith, (c.requires.0, omega (arith, length-lines c.args.c c.args.e, c.requires.1)))
+pub push_str-requires : goal.push_str-requires
+push_str-requires c =
+    let text = c.as_str.ensures.value ∙ c.text_of.ensures in
+    omega (arith, length-lines c.args.c c.args.e, ap length text, c.requires)
 
 pub push-requires : goal.push-requires
 unfolding encode
 push-requires c =
-    omega (arith, length-lines c.args.c c.args.e, ap length c.put_entry.ensures, length-append {A = ℕ}, c.requires.1)
+    let text = c.as_str.ensures.value ∙ c.text_of.ensures in
+    omega (arith, length-lines c.args.c c.args.e, ap length text, c.push_str.ensures.len, c.requires)
 
 pub put_remark-requires : goal.put_remark-requires
 put_remark-requires c =
-    omega (arith, length-lines c.args.c c.args.e, ap length c.put_entry.ensures, ap length (c.push.ensures.ascii (omega arith)), length-append {A = ℕ}, c.requires.1)
+    let text = c.as_str.ensures.value ∙ c.text_of.ensures in
+    omega (arith, length-lines c.args.c c.args.e, ap length text, c.push_str.ensures.len, ap length (c.push.ensures.ascii (omega arith)), length-append {A = ℕ}, c.requires)
 
 pub returns : goal.returns
 unfolding lines_of
 returns c =
     let a = c.args in
     let s = a.text.now.bytes in
+    let text : c.as_str.result.now ≡ entry_text a.e = c.as_str.ensures.value ∙ c.text_of.ensures in
     rw (
       c.put_remark.ensures,
       c.push.ensures.ascii (omega arith),
-      c.put_entry.ensures,
+      c.push_str.ensures.bytes,
+      text,
       append_assoc (s ++ entry_text a.e) (feed ∷ []) (remark a.c a.e),
       append_assoc s (entry_text a.e) (feed ∷ remark a.c a.e),
     )

@@ -7,17 +7,17 @@ use Rattle.listing.specs.Listings.{listing}
 use Rattle.listing.proofs.Answers.{too_short, long_enough, copied}
 use Rattle.listing.proofs.show.Goals as goal
 
-pub returns-then-out-length : goal.returns-then-out-length
-returns-then-out-length c =
+pub returns-then-out-len : goal.returns-then-out-len
+returns-then-out-len c =
     let a = c.args in
-    let size = c.len-length.ensures.value ∙ ap length c.listing_of-text.ensures in
+    let size = c.len.ensures.value ∙ ap length c.listing_of-text.ensures in
     too_short (held_by a.r.now) a.out.now (omega (arith, size))
 
 pub returns : goal.returns
 returns c =
     let a = c.args in
     let held = held_by a.r.now in
-    let size = c.len-length.ensures.value ∙ ap length c.listing_of-text.ensures in
+    let size = c.len.ensures.value ∙ ap length c.listing_of-text.ensures in
     let text = c.as_bytes.ensures.value ∙ c.deref.ensures.0 ∙ c.listing_of-text.ensures in
-    long_enough held a.out.now _ _ (omega (arith, size)) size
+    long_enough held a.out.now _ _ (omega (arith, size)) (c.copy.ensures.0 ∙ ap length text)
     (copied a.out.now c.copy.new.out (listing held) c.as_bytes.result.now text c.copy.ensures.1)

@@ -1,35 +1,37 @@
 -- `reading::bad_reading` meets its contract: each way out by the law of its method. Assumes nothing.
-use mathlib.Core.Path.{sym, ◌∙◌}
-use native.Mathlib.Omega.{arith}
-use Rattle.reading.proofs.Conditions.{p_over, q_over, method_1, method_2, method_3, method_4, no_method}
+use Rattle.std.proofs.Common.{◌+◌, sym, arith, lt-ltb, le-ltb}
+use Rattle.std.proofs.lemmas.Grind.{common_steps}
+use Rattle.reading.proofs.Conditions.{p_over, q_over, methods_1_2, method_3, method_4, no_method}
 use Rattle.reading.proofs.bad_reading.Goals as goal
 
-pub returns-then-w-gt-MOST : goal.returns-then-w-gt-MOST
-returns-then-w-gt-MOST c = sym (p_over _ c.if-w-gt-MOST.true)
-
 pub returns-then-w-gt-MOST-2 : goal.returns-then-w-gt-MOST-2
-returns-then-w-gt-MOST-2 c = sym (q_over _ c.if-w-gt-MOST-2.true)
+returns-then-w-gt-MOST-2 c = grind (arith, common_steps, p_over, q_over)
 
-pub returns-then-w-eq1 : goal.returns-then-w-eq1
-returns-then-w-eq1 c =
+pub returns-then-w : goal.returns-then-w
+returns-then-w c =
     let w = c.args.w in
-    c.bad_part.ensures ∙ sym (method_1 w (omega arith) (omega arith) c.if-w-eq1.true)
+    rw (methods_1_2 w (omega arith) (omega arith) (omega arith) (omega arith), lt-ltb w.p w.q c.if-w.true)
 
-pub returns-then-w-eq2 : goal.returns-then-w-eq2
-returns-then-w-eq2 c =
+pub returns-else-w : goal.returns-else-w
+returns-else-w c =
     let w = c.args.w in
-    c.bad_part-then-w-eq2.ensures ∙ sym (method_2 w (omega arith) (omega arith) c.if-w-eq2.true)
+    rw (methods_1_2 w (omega arith) (omega arith) (omega arith) (omega arith), le-ltb w.p w.q c.if-w.false)
 
-pub returns-then-w-eq3 : goal.returns-then-w-eq3
-returns-then-w-eq3 c =
+pub returns-then-w-lt1 : goal.returns-then-w-lt1
+returns-then-w-lt1 c =
     let w = c.args.w in
-    c.bad_sum.ensures ∙ sym (method_3 w (omega arith) (omega arith) c.if-w-eq3.true)
+    rw (method_3 w (omega arith) (omega arith) (omega arith), lt-ltb (w.p + w.q) 1 c.if-w-lt1.true)
 
-pub returns-then-w-eq4 : goal.returns-then-w-eq4
-returns-then-w-eq4 c =
+pub returns-else-w-lt1 : goal.returns-else-w-lt1
+returns-else-w-lt1 c =
     let w = c.args.w in
-    sym (method_4 w (omega arith) (omega arith) c.if-w-eq4.true)
+    rw (method_3 w (omega arith) (omega arith) (omega arith), le-ltb (w.p + w.q) 1 c.if-w-lt1.false)
 
-pub returns : goal.returns
-returns c =
-    sym (no_method _ c.if-w-eq1.false c.if-w-eq2.false c.if-w-eq3.false c.if-w-eq4.false)
+pub returns-in-4 : goal.returns-in-4
+returns-in-4 c = sym (method_4 c.args.w (omega arith) (omega arith) c.in-4.is)
+
+pub returns-in_default : goal.returns-in_default
+returns-in_default c = sym (no_method c.args.w (λ h. omega arith))
+
+pub returns-in_default-2 : goal.returns-in_default-2
+returns-in_default-2 c = sym (no_method c.args.w (λ h. omega arith))

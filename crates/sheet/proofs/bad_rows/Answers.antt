@@ -1,48 +1,25 @@
--- `sheet::bad_rows` meets its contract: each step's test is the definition's, and the product counts the rows. Assumes nothing.
-use mathlib.Core.Path.{◌≡◌, sym, ◌∙◌}
-use mathlib.Core.Bool.{and-false}
-use native.Mathlib.Omega.{arith}
-use Rattle.paper.specs.Rows.{row_count}
-use Rattle.paper.specs.Refusals.{bad_rows}
-use Rattle.laws.specs.Tests.{ltb_not}
+-- `sheet::bad_rows` meets its contract: a step that passed its test is not 0, so that the rows can be counted, and the tests are
+-- the definition's. Assumes nothing.
+use Rattle.std.proofs.Common.{◌≡◌, true, ◌&&◌, rules, arith}
+use Rattle.laws.specs.Tests.{left, right}
+use Rattle.paper.specs.Refusals.{is_step_to, bad_rows}
 use Rattle.sheet.proofs.Laws.{ranges, stepped}
 use Rattle.sheet.proofs.bad_rows.Goals as goal
 
-pub returns-then-not-step_holds : goal.returns-then-not-step_holds
-unfolding bad_rows
-returns-then-not-step_holds c = simp ((sym c.step_holds.ensures ∙ c.if-not-step_holds.true))
-
-pub returns-then-not-step_holds-2 : goal.returns-then-not-step_holds-2
-unfolding bad_rows
-returns-then-not-step_holds-2 c = simp ((sym c.step_holds-2.ensures ∙ c.if-not-step_holds-2.true), and-false)
-
-pub returns-then-not-step_holds-3 : goal.returns-then-not-step_holds-3
-unfolding bad_rows
-returns-then-not-step_holds-3 c = simp ((sym c.step_holds-3.ensures ∙ c.if-not-step_holds-3.true), and-false)
-
-pub loads-requires : goal.loads-requires
-loads-requires c =
+pub rows-requires : goal.rows-requires
+rows-requires c =
+    let s = c.args.s in
+    let front = is_step_to 500000 s.front in
+    let rear = is_step_to 500000 s.rear in
+    let water = is_step_to 2000000 s.water in
+    let tested : (front && rear && water) ≡ true = search rules in
     omega (
       arith,
       ranges c.requires,
-      stepped 500000 c.args.s.rear ((sym c.step_holds-2.ensures ∙ c.if-not-step_holds-2.false)),
-    )
-
-pub loads-requires-2 : goal.loads-requires-2
-loads-requires-2 c =
-    omega (
-      arith,
-      ranges c.requires,
-      stepped 2000000 c.args.s.water ((sym c.step_holds-3.ensures ∙ c.if-not-step_holds-3.false)),
+      stepped 500000 s.rear (right front rear (left (front && rear) water tested)),
+      stepped 2000000 s.water (right (front && rear) water tested),
     )
 
 pub returns : goal.returns
-unfolding bad_rows row_count
-returns c =
-    let rows : row_count c.args.s ≡ c.times.result = cc in
-    simp (
-      (sym c.step_holds.ensures ∙ c.if-not-step_holds.false),
-      (sym c.step_holds-2.ensures ∙ c.if-not-step_holds-2.false),
-      (sym c.step_holds-3.ensures ∙ c.if-not-step_holds-3.false),
-      rows,
-    ) (ltb_not 256 c.times.result)
+unfolding bad_rows
+returns c = search rules

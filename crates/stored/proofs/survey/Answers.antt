@@ -1,38 +1,66 @@
--- `stored::survey` meets its contract: by the header, and behind it by the entries. Assumes nothing.
--- the slice is one of bytes
-use mathlib.Core.Path.{◌≡◌, sym, ◌∙◌}
-use mathlib.Core.Bool.{true}
-use native.Mathlib.Omega.{arith}
-use lib.Pow.{are_bytes}
+-- `stored::survey` meets its contract. The loop's invariant: as many entries are passed as it went round, and where the last of
+-- them begins is at hand. Assumes nothing.
+use Rattle.std.proofs.Common.{◌≡◌, ℕ, ◌+◌, ◌-◌, [], ◌∷◌, ◌++◌, length, refl, ap, ◌∙◌, subst, arith}
+use mathlib.Core.List.{List}
+use Rattle.laws.specs.Lists.{length_more}
+use Rattle.paper.specs.declared.Entry.{Entry}
+use Rattle.paper.specs.Numbers.{code_of}
+use Rattle.paper.proofs.Lists.{without_more}
 use Rattle.format.specs.Numbers.{bytes_at}
-use Rattle.header.specs.Header.{headed}
-use Rattle.header.proofs.Judging.{enough_bytes}
-use Rattle.stored.proofs.Headers.{bad_header, good_header, too_many}
+use Rattle.stored.specs.Found.{bytes_in}
+use Rattle.stored.specs.Walks.{Walked}
+use Rattle.stored.proofs.Headers.{bad_header, begun}
+use Rattle.stored.proofs.Reading.{left_over, all_passed}
 use Rattle.stored.proofs.survey.Goals as goal
 
-pub returns-then-not-is_headed : goal.returns-then-not-is_headed
-returns-then-not-is_headed c =
-    let bytes : are_bytes c.args.s.now ≡ true = bytes_at c.args.s.now (λ i h. (c.type_inv.s i).fits) in
-    bad_header c.args.s.now (bytes) ((sym c.is_headed.ensures ∙ c.if-not-is_headed.true))
+pub returns-in_err-header : goal.returns-in_err-header
+returns-in_err-header c =
+    let bytes = bytes_at c.args.s.now (λ i h. (c.type_inv.s i).fits) in
+    rw c.from_residual.ensures (bad_header c.args.s.now bytes c.in_err-header.ensures)
 
-pub bounds-s-5 : goal.bounds-s-5
-bounds-s-5 c =
-    let right : headed c.args.s.now ≡ true = (sym c.is_headed.ensures ∙ c.if-not-is_headed.false) in
-    omega (arith, enough_bytes c.args.s.now (right))
+pub loop-init : goal.loop-init
+loop-init c =
+    let bytes = bytes_at c.args.s.now (λ i h. (c.type_inv.s i).fits) in
+    let all : c.in_ok-header.header.count ≡ c.in_ok-header.header.count - 0 = omega arith in
+    let kinds = ap code_of c.new-entries.ensures.1 ∙ c.last_kind.ensures in
+    let w = begun c.args.s.now c.in_ok-header.header c.in_ok-header.rest c.new-entries.result _ bytes c.in_ok-header.ensures c.new-entries.ensures.0 kinds c.new-standing.ensures in
+    ([], subst (λ (n : ℕ). Walked c.args.s.now [] n c.new-entries.result c.new-standing.result) all w, refl)
 
-pub returns-then-count-gt-CAPACITY : goal.returns-then-count-gt-CAPACITY
-returns-then-count-gt-CAPACITY c =
-    let bytes : are_bytes c.args.s.now ≡ true = bytes_at c.args.s.now (λ i h. (c.type_inv.s i).fits) in
-    let right : headed c.args.s.now ≡ true = (sym c.is_headed.ensures ∙ c.if-not-is_headed.false) in
-    too_many c.args.s.now (bytes) (right) c.if-count-gt-CAPACITY.true
+pub returns-in_err-pass : goal.returns-in_err-pass
+returns-in_err-pass c =
+    let s = c.args.s.now in
+    let l = c.loop in
+    let es = l.invariant.0 in
+    let left : c.in_ok-header.header.count - l.counter ≡ c.in_ok-header.header.count - (l.counter + 1) + 1 = omega arith in
+    let w = subst (λ (n : ℕ). Walked s es n l.entries l.standing) left l.invariant.1 in
+    rw c.from_residual-in_err-pass.ensures (c.in_err-pass.ensures s es _ w)
 
-pub bounds-s-4 : goal.bounds-s-4
-bounds-s-4 c =
-    let right : headed c.args.s.now ≡ true = (sym c.is_headed.ensures ∙ c.if-not-is_headed.false) in
-    omega (arith, enough_bytes c.args.s.now (right))
+pub loop-preserved : goal.loop-preserved
+loop-preserved c =
+    let s = c.args.s.now in
+    let l = c.loop in
+    let es = l.invariant.0 in
+    let e = c.in_ok-pass.field-0 in
+    let left : c.in_ok-header.header.count - l.counter ≡ c.in_ok-header.header.count - (l.counter + 1) + 1 = omega arith in
+    let w = subst (λ (n : ℕ). Walked s es n l.entries l.standing) left l.invariant.1 in
+    let last = ap (λ (fs : List Entry). 6 + length (bytes_in fs)) (without_more es e) in (
+      es ++ e ∷ [],
+      c.in_ok-pass.ensures s es _ w,
+      (omega (arith, length_more es e), omega (arith, l.invariant.1.place, last)),
+    )
+
+pub returns-then-left-gt0 : goal.returns-then-left-gt0
+returns-then-left-gt0 c =
+    let s = c.args.s.now in
+    let l = c.loop in
+    let all : c.in_ok-header.header.count - l.counter ≡ 0 = omega arith in
+    left_over s l.invariant.0 _ _ _ (subst (λ (n : ℕ). Walked s l.invariant.0 n l.entries l.standing) all l.invariant.1) (omega arith)
 
 pub returns : goal.returns
 returns c =
-    let bytes : are_bytes c.args.s.now ≡ true = bytes_at c.args.s.now (λ i h. (c.type_inv.s i).fits) in
-    let right : headed c.args.s.now ≡ true = (sym c.is_headed.ensures ∙ c.if-not-is_headed.false) in
-    rw (good_header c.args.s.now (bytes) (right), ← c.last_kind.ensures) c.survey_entries.ensures
+    let s = c.args.s.now in
+    let l = c.loop in
+    let es = l.invariant.0 in
+    let all : c.in_ok-header.header.count - l.counter ≡ 0 = omega arith in
+    let w = subst (λ (n : ℕ). Walked s es n l.entries l.standing) all l.invariant.1 in
+    (es, all_passed s es _ _ _ w (omega arith), record { stands = w.stands; last = l.invariant.2; end = omega (arith, w.place) })

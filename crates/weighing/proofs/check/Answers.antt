@@ -3,7 +3,7 @@ use mathlib.Core.Path.{◌≡◌, sym, ◌∙◌, ap₂}
 use mathlib.Core.Bool.{◌||◌}
 use Rattle.paper.specs.Refusals.{first_number, bad_reading, bad_part, either, weighing_faults}
 use Rattle.weighing.specs.Readings.{both}
-use Rattle.weighing.proofs.Sums.{first_decides}
+use Rattle.weighing.proofs.Distances.{first_decides}
 use Rattle.weighing.proofs.check.Goals as goal
 
 pub returns-then-reading : goal.returns-then-reading

@@ -15,10 +15,10 @@ returns c =
     let l = c.laid-empty.ensures in
     let m = l.1 4000000 b.ranged.most in
     let weight : x.weight ≤ 4000000 = rw l.0 b.ranged.most in
-    let up : x.moment.up ≤ 65536000000000000 = rw l.0 b.aft in
-    let down : x.moment.down ≤ 65536000000000000 = rw l.0 b.fore in
+    let up : x.moment.up ≤ 65536000000000000 = rw l.0 b.moment.up in
+    let down : x.moment.down ≤ 65536000000000000 = rw l.0 b.moment.down in
     let h = c.grams_at.ensures.0 in
-    let empty : Stands a.force.sheet (plain q).total (plain q).moment x = rw l.0 (stands_laid q.total (record { up = q.aft; down = q.fore }) a) in
+    let empty : Stands a.force.sheet (plain q).total (plain q).moment x = rw l.0 (stands_laid q.total q.moment a) in
     rw c.carried.ensures.0 (
       record {
         weight = omega (arith, h.weight);

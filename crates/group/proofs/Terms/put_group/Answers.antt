@@ -7,12 +7,9 @@ use native.Mathlib.Nat.{add-mul, one-mul, zero-mul}
 use native.Mathlib.Omega.{arith}
 use lib.IntN.{pos, ◌+ℤ◌}
 use lib.ListN.{length, take, drop}
-use Rattle.std.proofs.lemmas.List.{length-take}
-use Rattle.std.proofs.Common.{length-drop}
-use Rattle.laws.specs.Written.{written, written-part, length-written}
+use Rattle.laws.specs.Written.{written, part_long, written-part, length-written}
 use Rattle.laws.specs.Z.{is_nat, is_add, same}
 use Rattle.paper.specs.Units.{half_grams}
-use Rattle.paper.specs.Rows.{row_count}
 use Rattle.paper.specs.Placard.{line}
 use Rattle.sheet.proofs.Accepted.{accepted-sheet}
 use Rattle.seat.specs.declared.InForce.{InForce}
@@ -23,7 +20,8 @@ use Rattle.aboard.proofs.Standing.{room-more, room_least}
 use Rattle.line.proofs.Length.{length-line}
 use Rattle.group.specs.Numbered.{rears, waters, blanks}
 use Rattle.group.specs.Shared.{FieldsOf}
-use Rattle.group.proofs.Buffer.{row_in, line_in_lem, group_room, rear_in, group_begun, group_more, group_done}
+use Rattle.group.proofs.Rows.{blank_counted, one_at_most}
+use Rattle.group.proofs.Buffer.{row_in, line_in_lem, rear_in, waters_few, group_begun, group_more}
 use Rattle.group.proofs.Terms.put_group.Goals as goal
 
 -- the non-lifting weight with the rear load
@@ -34,14 +32,9 @@ part_with b r = same (is_nat (b.nonlifting + 2 * r)) (is_add (is_nat b.nonliftin
 rear_most : (x : InForce) (j : ℕ) → j < rears x.sheet → j * x.sheet.rear.step ≤ 500000
 rear_most x j h = omega (arith, rear_in x.sheet j h, (accepted-sheet x.sheet x.accepted).ranges.rear)
 
--- its rows are among the sheet's, and these are few
-room_in : (x : InForce) (fields : List ℕ) (j : ℕ) → FieldsOf x.sheet fields → j < rears x.sheet → (j * length fields + length fields ≤ row_count x.sheet) × (row_count x.sheet ≤ 256)
-room_in x fields j f h =
-    (group_room x.sheet (length fields) f.count j h, (accepted-sheet x.sheet x.accepted).steps.rows)
-
--- the part of the buffer behind the lines before has room for one more
-part_long : (out : List ℕ) (at : ℕ) → at + 36 ≤ length out → 36 ≤ length (take (length out - at) (drop at out))
-part_long out at h = omega (arith, length-take (length out - at) (drop at out), length-drop at out)
+-- its rows are few, and the buffer has room for them
+room_in : (x : InForce) (fields out : List ℕ) → FieldsOf x.sheet fields → 36 * waters x.sheet ≤ length out → (length fields ≤ 256) × (36 * length fields ≤ length out)
+room_in x fields out f h = (waters_few x (length fields) f.count, omega (arith, h, f.count))
 
 pub beside-x-requires : goal.beside-x-requires
 beside-x-requires c = (c.requires.0, rear_most c.args.self.now.front.arms.force c.args.j c.requires.1)
@@ -59,11 +52,6 @@ overflow_add-b c =
 pub field-field-requires : goal.field-field-requires
 field-field-requires c = omega (arith, rear_most c.args.self.now.front.arms.force c.args.j c.requires.1)
 
-pub overflow_mul-first : goal.overflow_mul-first
-overflow_mul-first c =
-    let room = room_in c.args.self.now.front.arms.force c.args.fields.now c.args.j c.requires.2 c.requires.1 in
-    omega (arith, room.0, room.1)
-
 pub loop-k-init : goal.loop-k-init
 loop-k-init c =
     let force = c.args.self.now.front.arms.force in
@@ -72,38 +60,33 @@ loop-k-init c =
 
 pub row-y-requires : goal.row-y-requires
 row-y-requires c =
-    let room = room_in c.args.self.now.front.arms.force c.args.fields.now c.args.j c.requires.2 c.requires.1 in
-    (room_least c.loop-k.k 256 c.loop-k.x (omega (arith, room.0, room.1)) c.loop-k.invariant.3, c.with_none-span.ensures.0)
+    let room = room_in c.args.self.now.front.arms.force c.args.fields.now c.args.out.now c.requires.2 c.requires.3 in
+    (room_least c.loop-k.k 256 c.loop-k.x (omega (arith, room.0)) c.loop-k.invariant.3, c.with_none-span.ensures.0)
 
-pub overflow_add-first : goal.overflow_add-first
-overflow_add-first c =
-    let room = room_in c.args.self.now.front.arms.force c.args.fields.now c.args.j c.requires.2 c.requires.1 in
-    omega (arith, room.0, room.1)
-
-pub overflow_mul-first-in-loop-k : goal.overflow_mul-first-in-loop-k
-overflow_mul-first-in-loop-k c =
-    let room = room_in c.args.self.now.front.arms.force c.args.fields.now c.args.j c.requires.2 c.requires.1 in
-    omega (arith, room.0, room.1)
+pub overflow_mul-k : goal.overflow_mul-k
+overflow_mul-k c =
+    let room = room_in c.args.self.now.front.arms.force c.args.fields.now c.args.out.now c.requires.2 c.requires.3 in
+    omega (arith, room.0)
 
 pub slice_bounds-put_line-count : goal.slice_bounds-put_line-count
 slice_bounds-put_line-count c =
-    let room = room_in c.args.self.now.front.arms.force c.args.fields.now c.args.j c.requires.2 c.requires.1 in
-    omega (arith, room.0, c.requires.3, c.loop-k.invariant.2)
+    let room = room_in c.args.self.now.front.arms.force c.args.fields.now c.args.out.now c.requires.2 c.requires.3 in
+    omega (arith, room.1, c.loop-k.invariant.2)
 
 pub slice_bounds-put_line-start : goal.slice_bounds-put_line-start
 slice_bounds-put_line-start c =
-    let room = room_in c.args.self.now.front.arms.force c.args.fields.now c.args.j c.requires.2 c.requires.1 in
-    omega (arith, room.0, c.requires.3, c.loop-k.invariant.2)
+    let room = room_in c.args.self.now.front.arms.force c.args.fields.now c.args.out.now c.requires.2 c.requires.3 in
+    omega (arith, room.1, c.loop-k.invariant.2)
 
 pub put_line-requires : goal.put_line-requires
 put_line-requires c =
-    let room = room_in c.args.self.now.front.arms.force c.args.fields.now c.args.j c.requires.2 c.requires.1 in
-    (part_long c.loop-k.out (36 * (c.args.j * length c.args.fields.now + c.loop-k.k)) (omega (arith, room.0, c.requires.3, c.loop-k.invariant.2)), c.row-y.ensures.0)
+    let room = room_in c.args.self.now.front.arms.force c.args.fields.now c.args.out.now c.requires.2 c.requires.3 in
+    (part_long c.loop-k.out (36 * c.loop-k.k) 36 (omega (arith, room.1, c.loop-k.invariant.2)), c.row-y.ensures.0)
 
 pub carried-x-requires : goal.carried-x-requires
 carried-x-requires c =
-    let room = room_in c.args.self.now.front.arms.force c.args.fields.now c.args.j c.requires.2 c.requires.1 in
-    (room_least c.loop-k.k 256 c.loop-k.x (omega (arith, room.0, room.1)) c.loop-k.invariant.3, c.args.self.now.share_in)
+    let room = room_in c.args.self.now.front.arms.force c.args.fields.now c.args.out.now c.requires.2 c.requires.3 in
+    (room_least c.loop-k.k 256 c.loop-k.x (omega (arith, room.0)) c.loop-k.invariant.3, c.args.self.now.share_in)
 
 pub loop-k-preserved : goal.loop-k-preserved
 loop-k-preserved c =
@@ -112,31 +95,31 @@ loop-k-preserved c =
     let s = force.sheet in
     let f = force.seat in
     let n = length a.fields.now in
-    let room = room_in force a.fields.now a.j c.requires.2 c.requires.1 in
+    let room = room_in force a.fields.now a.out.now c.requires.2 c.requires.3 in
     let k = c.loop-k.k in
-    let i = a.j * n + k in
     let out = c.loop-k.out in
     let water = k * s.water.step in
     let rear = a.j * s.rear.step in
     let inv = c.loop-k.invariant in
     let count = c.requires.2.count in
     let taken : k < n = c.loop-k-test.true in
+    let blank = blank_counted c.row-y.result c.is_none.result c.is_none.ensures in
     let field = c.requires.2.each k (omega (arith, count, taken)) in
-    let put : c.put_line.new.out ≡ written (take (length out - 36 * i) (drop (36 * i) out)) 0 (line rear water c.row-y.result) = c.put_line.ensures rear water c.field-field.ensures field in
-    let whole = written-part out c.put_line.new.out _ (36 * i) put in
+    let put : c.put_line.new.out ≡ written (take (length out - 36 * k) (drop (36 * k) out)) 0 (line rear water c.row-y.result) = c.put_line.ensures rear water c.field-field.ensures field in
+    let whole = written-part out c.put_line.new.out _ (36 * k) put in
     let next : (k + 1) * s.water.step ≡ water + s.water.step = omega (arith, add-mul k 1 s.water.step, one-mul s.water.step) in (
       omega arith,
-      omega (arith, c.blank-none.ensures.1),
-      ap length whole ∙ length-written out _ _ (rw length-line (omega (arith, room.0, c.requires.3, inv.2))) ∙ inv.2,
+      omega (arith, one_at_most _ c.from-none.result c.from-none.ensures),
+      ap length whole ∙ length-written out _ _ (rw length-line (omega (arith, room.1, inv.2))) ∙ inv.2,
       room-more k c.loop-k.x a.self.now.share c.carried-x.result c.carried-x.ensures.0 inv.3 a.self.now.share_in,
       λ g h. (
         rw next (c.carried-x.ensures.1 s g rear water (inv.4 g h).0 a.self.now.share_is),
         λ none.
             let row_is = c.row-y.ensures.1 g rear water (inv.4 g h).0 none in
-            group_more s f g (a.j * n) k c.loop-k.none c.blank-none.result a.out.now out _ ((inv.4 g h).1 none)
-            (omega (arith, room.0, c.requires.3))
-            (c.blank-none.ensures.0 ∙ ap blanks (row_is ∙ row_in s n count a.j k taken f g))
-            (whole ∙ ap (λ y. written out (36 * i) y) (ap (λ y. line rear water y) row_is ∙ line_in_lem s n count a.j k taken f g)),
+            group_more s f g (a.j * n) k c.loop-k.none c.from-none.result a.out.now out _ ((inv.4 g h).1 none)
+            (omega (arith, room.1))
+            (c.from-none.ensures ∙ blank ∙ ap blanks (row_is ∙ row_in s n count a.j k taken f g))
+            (whole ∙ ap (λ y. written out (36 * k) y) (ap (λ y. line rear water y) row_is ∙ line_in_lem s n count a.j k taken f g)),
       ),
     )
 
@@ -148,5 +131,6 @@ returns c =
     let none = c.with_none-span.ensures.1 g (a.j * force.sheet.rear.step) c.beside-x.ensures.1 (part_with a.b (a.j * force.sheet.rear.step)) in
     let put = (c.loop-k.invariant.4 g c.beside-x.ensures.1).1 none in
     let count = c.requires.2.count in
-    let done = group_done force.sheet force.seat g _ c.loop-k.k c.loop-k.none (a.j * waters force.sheet) (waters force.sheet) a.out.now c.loop-k.out (ap (λ n. a.j * n) count) (omega (arith, count)) put in
-    (omega (arith, count), done.0, c.loop-k.invariant.2, done.1)
+    let all : c.loop-k.k ≡ waters force.sheet = omega (arith, count) in
+    let done = rw (count, all) at put in
+    (omega (arith, count), done.blanks, done.lines)

@@ -12,4 +12,4 @@ use Rattle.group.proofs.Terms.put_group.Given as goal
 abbrev pub invariant-loop-k : goal.invariant-loop-k
 invariant-loop-k l =
     let force = l.self.front.arms.force in
-    (l.k ≤ length l.fields) × (l.none ≤ l.k) × (length l.out ≡ length l.initial.out) × Room l.k l.x × ((b : Balance) → Beside force.sheet b l.rear 0 l.initial.x → Beside force.sheet b l.rear (l.k * force.sheet.water.step) l.x × (NoneOf force.sheet force.seat b l.rear l.span → GroupTo force.sheet force.seat b l.first l.k l.none l.initial.out l.out))
+    (l.k ≤ length l.fields) × (l.none ≤ l.k) × (length l.out ≡ length l.initial.out) × Room l.k l.x × ((b : Balance) → Beside force.sheet b l.rear 0 l.initial.x → Beside force.sheet b l.rear (l.k * force.sheet.water.step) l.x × (NoneOf force.sheet force.seat b l.rear l.span → GroupTo force.sheet force.seat b (l.j * length l.fields) l.k l.none l.initial.out l.out))

@@ -11,5 +11,5 @@ returns c =
     rw (
       held v 0 (search rules),
       held v 1 (search rules),
-      plain_held v 2 _ (search rules) c.plain.ensures,
+      plain_held v 2 _ (search rules) c.unsigned_abs.ensures.value,
     )

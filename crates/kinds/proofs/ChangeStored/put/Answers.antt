@@ -1,18 +1,18 @@
 -- A change put: its fields, one behind the other. Assumes nothing.
-use Rattle.std.proofs.Common.{◌≡◌, ◌∙◌, arith, rules}
+use Rattle.std.proofs.Common.{arith, rules}
 use Rattle.paper.specs.declared.Entry.TheVariants as entry
 use Rattle.paper.specs.File.{byte, signed_word, layout_of, values_of, bytes_of, field_bytes, fields_bytes}
 use Rattle.format.specs.Rows.{fields_at}
-use Rattle.kinds.proofs.Put.{put_all, all_put, then_put, none_put, signed_put}
+use Rattle.kinds.proofs.Put.{Put, all_put, then_put, none_put, signed_put}
 use Rattle.kinds.proofs.ChangeStored.put.Goals as goal
 
 pub returns : goal.returns
 unfolding layout_of bytes_of field_bytes fields_bytes
 returns c =
     let a = c.args in
-    let put : c.put_byte.new.out ≡ put_all (fields_at 3) (values_of (entry.Change a.self)) a.out.now a.at =
-    (then_put signed_word _ _ _ _ _ _ _ _ (signed_put a.self.c _ _ _ _ (search rules) c.put_signed-at.ensures)
-    (then_put signed_word _ _ _ _ _ _ _ _ (signed_put a.self.arm _ _ _ _ (search rules) c.put_signed-at-2.ensures)
-    (then_put byte _ _ _ _ _ _ _ _ c.put_byte.ensures
+    let put : Put (fields_at 3) (values_of (entry.Change a.self)) a.out.now 0 _ =
+    (then_put signed_word _ _ _ _ _ _ _ (signed_put a.self.c _ _ (search rules) c.put_signed.ensures)
+    (then_put signed_word _ _ _ _ _ _ _ (signed_put a.self.arm _ _ (search rules) c.put_signed-2.ensures)
+    (then_put byte _ _ _ _ _ _ _ c.put_plain.ensures
     (none_put _ _)))) in
-    put ∙ all_put (fields_at 3) (values_of (entry.Change a.self)) a.out.now a.at (omega arith)
+    all_put _ _ _ _ _ put (omega arith)

@@ -9,12 +9,12 @@ unfolding entry_of
 returns c =
     let v = c.args.v.now in
     rw (
-      plain_held v 0 _ (search rules) c.plain.ensures,
-      plain_held v 1 _ (search rules) c.plain-2.ensures,
-      plain_held v 2 _ (search rules) c.plain-3.ensures,
-      plain_held v 3 _ (search rules) c.plain-4.ensures,
-      plain_held v 4 _ (search rules) c.plain-5.ensures,
+      plain_held v 0 _ (search rules) c.unsigned_abs.ensures.value,
+      plain_held v 1 _ (search rules) c.unsigned_abs-2.ensures.value,
+      plain_held v 2 _ (search rules) c.unsigned_abs-3.ensures.value,
+      plain_held v 3 _ (search rules) c.unsigned_abs-4.ensures.value,
+      plain_held v 4 _ (search rules) c.unsigned_abs-5.ensures.value,
       held v 5 (search rules),
-      plain_held v 6 _ (search rules) c.plain-6.ensures,
-      plain_held v 7 _ (search rules) c.plain-7.ensures,
+      plain_held v 6 _ (search rules) c.unsigned_abs-6.ensures.value,
+      plain_held v 7 _ (search rules) c.unsigned_abs-7.ensures.value,
     )

@@ -1,17 +1,17 @@
 -- A seat put: its fields, one behind the other. Assumes nothing.
-use Rattle.std.proofs.Common.{◌≡◌, ◌∙◌, arith, rules}
+use Rattle.std.proofs.Common.{arith, rules}
 use Rattle.paper.specs.declared.Entry.TheVariants as entry
 use Rattle.paper.specs.File.{signed_word, layout_of, values_of, bytes_of, field_bytes, fields_bytes}
 use Rattle.format.specs.Rows.{fields_at}
-use Rattle.kinds.proofs.Put.{put_all, all_put, then_put, none_put, signed_put}
+use Rattle.kinds.proofs.Put.{Put, all_put, then_put, none_put, signed_put}
 use Rattle.kinds.proofs.SeatStored.put.Goals as goal
 
 pub returns : goal.returns
 unfolding layout_of bytes_of field_bytes fields_bytes
 returns c =
     let a = c.args in
-    let put : c.put_signed.new.out ≡ put_all (fields_at 5) (values_of (entry.Seat a.self)) a.out.now a.at =
-    (then_put signed_word _ _ _ _ _ _ _ _ (signed_put a.self.lower _ _ _ _ (search rules) c.put_signed-at.ensures)
-    (then_put signed_word _ _ _ _ _ _ _ _ (signed_put a.self.higher _ _ _ _ (search rules) c.put_signed.ensures)
+    let put : Put (fields_at 5) (values_of (entry.Seat a.self)) a.out.now 0 _ =
+    (then_put signed_word _ _ _ _ _ _ _ (signed_put a.self.lower _ _ (search rules) c.put_signed.ensures)
+    (then_put signed_word _ _ _ _ _ _ _ (signed_put a.self.higher _ _ (search rules) c.put_signed-2.ensures)
     (none_put _ _))) in
-    put ∙ all_put (fields_at 5) (values_of (entry.Seat a.self)) a.out.now a.at (omega arith)
+    all_put _ _ _ _ _ put (omega arith)

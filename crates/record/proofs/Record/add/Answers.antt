@@ -1,6 +1,5 @@
 -- `Record::add` meets its contract: the list that the record holds settles the number and the record. Assumes nothing.
-use Rattle.std.proofs.Common.{◌≡◌, refl, sym, rules, Result, Err}
-use native.Mathlib.Omega.{arith}
+use Rattle.std.proofs.Common.{◌≡◌, refl, sym, ◌∙◌, rules, Result, Err}
 use Rattle.paper.specs.declared.Refusal.{Refusal}
 use Rattle.record.proofs.Replays.{number_is, room, log_more}
 use Rattle.record.proofs.Calls.{refused_is, accepted_is}
@@ -13,17 +12,11 @@ returns-in_err-add c =
     rw told
     (refused_is c.in_err-add.field-0.0 _ c.args.self.now _ (number_is (held_by c.args.self.now) _ c.replay-now.ensures c.args.e _ _ c.in_err-add.ensures))
 
-pub bounds-now-at : goal.bounds-now-at
-bounds-now-at c = room _ _ c.replay-now.ensures _ _ 0 c.in_ok-add.ensures refl
-
-pub offset_bounds-now-at : goal.offset_bounds-now-at
-offset_bounds-now-at c = omega (arith, room _ _ c.replay-now.ensures _ _ 0 c.in_ok-add.ensures refl)
-
-pub overflow_add-now : goal.overflow_add-now
-overflow_add-now c = omega (arith, room _ _ c.replay-now.ensures _ _ 0 c.in_ok-add.ensures refl)
+pub push-requires : goal.push-requires
+push-requires c = room _ _ c.replay-now.ensures _ _ 0 c.in_ok-add.ensures refl
 
 pub returns : goal.returns
 returns c =
     let at = c.replay-now.ensures in
     let j = c.in_ok-add.ensures in
-    accepted_is _ c.args.self.now _ _ (sym (number_is _ _ at _ _ 0 j)) (log_more _ _ at _ _ 0 j refl)
+    accepted_is _ c.args.self.now _ _ (sym (number_is _ _ at _ _ 0 j)) (c.push.ensures ∙ log_more _ _ at _ _ 0 j refl)

@@ -1,0 +1,2 @@
+-- What the proofs share: an entry kept or not.
+pub mod Kept

@@ -1,0 +1,2 @@
+-- What the reader gives.
+pub mod Reading

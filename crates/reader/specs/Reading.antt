@@ -1,0 +1,21 @@
+-- What the reader gives: entries of the kinds that a version has.
+use Rattle.std.specs.Prelude.{◌≡◌, cond, List, ℕ, leb}
+use Rattle.std.specs.Prelude.{Option as RustOption}
+use Rattle.std.proofs.Math.Option.{Option, none, some}
+use Rattle.paper.specs.declared.Entry.{Entry}
+use Rattle.paper.specs.Numbers.{code_of}
+use Rattle.paper.specs.File.{kind_of, take_entry}
+use Rattle.entries.specs.Taking.{Takes}
+use Rattle.reader.specs.declared.Reader.{Reader}
+
+-- an entry that was taken is one of a kind up to k, else none is
+abbrev pub up_to : ℕ → Option (Entry × List ℕ) → Option (Entry × List ℕ)
+up_to k none = none
+up_to k (some p) = cond (leb (kind_of p.0) k) (some p) none
+
+unfoldable pub take_to : ℕ → List ℕ → Option (Entry × List ℕ)
+take_to k xs = up_to k (take_entry xs)
+
+-- the entry that the bytes begin with, behind which the reader then stands, or none
+abbrev pub GivesEntry : Reader → RustOption Entry → Reader → Type 0
+GivesEntry s x t = Takes (take_to (code_of s.kinds) s.rest.now) x t.rest.now × (t.kinds ≡ s.kinds)

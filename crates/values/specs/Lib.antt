@@ -1,2 +1,0 @@
--- An entry's values as the code holds them.
-pub mod Places

@@ -1,0 +1,15 @@
+-- A seat's values: each behind the one before it. Assumes nothing.
+use Rattle.std.proofs.Common.{◌≡◌, ◌∙◌, rules}
+use Rattle.paper.specs.declared.Entry.TheVariants as entry
+use Rattle.paper.specs.File.{values_of}
+use Rattle.wording.proofs.Parts.{put_all, all_put, then_put, signed_put, none_put}
+use Rattle.wording.proofs.SeatWorded.put_values.Goals as goal
+
+pub returns : goal.returns
+returns c =
+    let a = c.args in
+    let put : c.put_number-2.new.text.bytes ≡ put_all (values_of (entry.Seat a.self)) a.text.now.bytes =
+    (then_put _ _ _ _ _ (signed_put a.self.lower _ _ (search rules) c.put_number.ensures.behind)
+    (then_put _ _ _ _ _ (signed_put a.self.higher _ _ (search rules) c.put_number-2.ensures.behind)
+    (none_put _))) in
+    put ∙ all_put (values_of (entry.Seat a.self)) a.text.now.bytes

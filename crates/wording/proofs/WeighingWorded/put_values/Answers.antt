@@ -1,0 +1,19 @@
+-- A weighing's values: each behind the one before it. Assumes nothing.
+use Rattle.std.proofs.Common.{◌≡◌, ◌∙◌, rules}
+use Rattle.paper.specs.declared.Entry.TheVariants as entry
+use Rattle.paper.specs.File.{values_of}
+use Rattle.wording.proofs.Parts.{put_all, all_put, then_put, signed_put, none_put}
+use Rattle.wording.proofs.WeighingWorded.put_values.Goals as goal
+
+pub returns : goal.returns
+returns c =
+    let a = c.args in
+    let put : c.put_size-5.new.text.bytes ≡ put_all (values_of (entry.Weighing a.self)) a.text.now.bytes =
+    (then_put _ _ _ _ _ c.put_size.ensures.behind
+    (then_put _ _ _ _ _ c.put_size-2.ensures.behind
+    (then_put _ _ _ _ _ c.put_size-3.ensures.behind
+    (then_put _ _ _ _ _ (signed_put a.self.a _ _ (search rules) c.put_number.ensures.behind)
+    (then_put _ _ _ _ _ c.put_size-4.ensures.behind
+    (then_put _ _ _ _ _ c.put_size-5.ensures.behind
+    (none_put _))))))) in
+    put ∙ all_put (values_of (entry.Weighing a.self)) a.text.now.bytes
