@@ -9,7 +9,7 @@
 //   tHEX reads these bytes into a fresh record. The answer is the number where that is not 0, and else the centre of
 //        gravity of the record read, as number, total, moment and centre; `other` behind it says that the record has
 //        another file than it should: the one that was read, in the version that is written, or that of a fresh record.
-//   rHEX reads them into the record. The answer is the number; the centre of gravity of the record returned; and the
+//   rHEX reads them into the record. The answer is the number; the centre of gravity of the record as left; and the
 //        number, length and sum of its file.
 //   c    makes the calls, and answers as r does.
 //   w    makes them, and answers the centre of gravity, and the file's number, length and bytes.
