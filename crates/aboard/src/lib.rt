@@ -8,7 +8,7 @@ ghost use Rattle.aboard.specs.Sides.{Sided, safe_arm};
 
 use balance::Balance;
 use laws::Sides;
-use paper::Weight;
+use paper::weight;
 use seat::InForce;
 
 // The arms of the sheet in force, each by its two sides: FWD, 20 times the safe aft limit, the rear seat, the water.
@@ -76,7 +76,7 @@ impl Arms {
         requires { (grams ≤ 2000000) × Below 2000000 arm }
         ensures { Share result × LoadOf self.now.force.sheet grams (value_of arm) result }
     {
-        let weight = Weight::HALVES * grams;
+        let weight = weight::HALVES * grams;
         self.laid(weight, arm * weight)
     }
 

@@ -20,12 +20,12 @@ use Rattle.paper.proofs.Calls.{entry_number_lem, entry_added}
 use Rattle.judge.specs.declared.Standing.{Standing}
 use Rattle.judge.specs.Standing.{Stands, stands_in, plainly, judged}
 use Rattle.judge.proofs.Accepted.{accepted-more}
+use Rattle.judge.proofs.Following.{kept_added}
 use Rattle.record.specs.declared.Record.{Record}
 use Rattle.record.specs.declared.Replayed.{Replayed}
 use Rattle.record.specs.Held.{record_of, held_by, answered, put, ReplayedAs}
 use Rattle.record.proofs.Calls.{Answer}
 use Rattle.record.proofs.Lists.{held_record}
-use Rattle.record.proofs.Turns.{kept_added}
 use Rattle.record.proofs.Replays.{number_is, room, gone_on}
 use Rattle.record.proofs.Following.{call_accepted, answered_list, answered_number, made_answered}
 use Rattle.language.specs.declared.Line.TheVariants as line

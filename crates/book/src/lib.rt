@@ -8,11 +8,10 @@ use judge::Standing;
 use language::Line;
 use paper::Refusal;
 use record::Record;
-use std::error::Error;
 use std::fmt;
 
 // Why a logbook is no record: the line with this number is refused, or not understood.
-#[derive(Clone, Copy, PartialEq, Eq)]
+#[derive(Clone, Copy)]
 pub enum Failure {
     Refused(usize, Refusal),
     NotUnderstood(usize),
@@ -31,15 +30,6 @@ impl fmt::Display for Failure {
         }
     }
 }
-
-// As a program reports it: a refusal has a number, and no other text.
-impl fmt::Debug for Failure {
-    fn fmt<W: fmt::Write>(&self, f: &mut fmt::Formatter<W>) -> fmt::Result {
-        fmt::Display::fmt(self, f)
-    }
-}
-
-impl Error for Failure {}
 
 // A logbook from its first line to its last. The record stays here: an accepted entry is stored in place.
 pub fn read(s: &[u8]) -> Result<Record, Failure>

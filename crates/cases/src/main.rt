@@ -13,7 +13,5 @@ use script::calls::run;
 use std::io;
 
 fn main(rt: HostRuntime) -> io::Result<()> {
-    run(&mut rt.reader(), |log, label, last| {
-        report::tried(&rt, log, label, last)
-    })
+    run(&mut rt.reader(), |case| report::tried(&rt, &case))
 }

@@ -11,13 +11,13 @@ ghost use Rattle.balance.specs.Balance.{plain, Bounded};
 
 use balance::Balance;
 use laws::Sides;
-use paper::{Arm, Change, Refusal, Weight};
+use paper::{Change, Refusal, arm, weight};
 
 // Whether c and the flag are in their ranges.
 fn in_range(x: Change) -> bool
     ensures { result ≡ is_change x }
 {
-    Weight::SIGNED_LEAST <= x.c && x.c <= Weight::SIGNED_MOST && x.c != 0 && x.flag <= 1
+    weight::SIGNED_LEAST <= x.c && x.c <= weight::SIGNED_MOST && x.c != 0 && x.flag <= 1
 }
 
 // Grams as half grams.
@@ -25,7 +25,7 @@ fn half_grams(c: i64) -> i64
     requires { (negsuc 1999999 ≤ℤ c) × (c ≤ℤ pos 2000000) }
     ensures { result ≡ half_grams c }
 {
-    Weight::HALVES as i64 * c
+    weight::SIGNED_HALVES * c
 }
 
 // What of a change counts as non-lifting: all of what it adds where the flag is 1.
@@ -41,7 +41,7 @@ pub fn changed(b: Balance, x: Change) -> Result<Balance, Refusal>
     ensures number { number_in result ≡ first_number (change_faults (some (plain b)) x) }
     ensures accepted { IfOk result (λ r. (plain r ≡ paper.changed (plain b) x) × ((k : ℕ) → Bounded k b → Bounded (k + 1) r)) }
 {
-    if !Arm::holds(x.arm) {
+    if !arm::holds(x.arm) {
         return Err(Refusal::Distance);
     }
     if !in_range(x) {
@@ -49,7 +49,7 @@ pub fn changed(b: Balance, x: Change) -> Result<Balance, Refusal>
     }
     let gain = half_grams(x.c);
     let total = b.total as i64 + gain;
-    if total < Weight::HALVES_LEAST || Weight::HALVES_MOST < total {
+    if total < weight::HALVES_LEAST || weight::HALVES_MOST < total {
         return Err(Refusal::Change);
     }
     let part = b.nonlifting as i64 + counted(x.flag, gain);

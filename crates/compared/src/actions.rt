@@ -7,15 +7,13 @@ use nodhulika::{
     nodhulika_weigh, nodhulika_weigh_paired,
 };
 use paper::Entry;
-use script::texts::{decoded, parsed};
+use script::texts::{SPELLED, digits, parted, spelled};
 use std::io;
 
 // The longest buffer of a record.
 const ROOM: usize = 4096;
 
-// The longest file and the longest placard's buffer that a case gives.
-const FILE: usize = 4096;
-
+// The longest placard's buffer that a case gives.
 const PLACARD: usize = 9400;
 
 // An answer behind the others of its case.
@@ -89,9 +87,9 @@ fn placard(rt: &impl Print, size: usize, record: &[u8]) -> io::Result<()> {
 }
 
 // `Read HEX`.
-fn read(digits: &str, record: &mut [u8]) -> io::Result<u64> {
-    let mut file = [0u8; FILE];
-    Ok(nodhulika_read(record, decoded(digits, &mut file)?))
+fn read(digits: &[u8], record: &mut [u8]) -> u64 {
+    let mut file = [0u8; SPELLED];
+    nodhulika_read(record, spelled(digits, &mut file))
 }
 
 // A call, as a line of a logbook.
@@ -130,16 +128,17 @@ impl Case {
     // The action of a line by its first word. `Lent HEX` puts these bytes at the front of the buffer, as they are.
     pub fn act(&mut self, rt: &impl Print, line: &str) -> io::Result<()> {
         let record = lent(&mut self.buffer, self.room);
-        let (word, taken) = line.split_once(' ').unwrap_or((line, ""));
+        let (word, taken) = parted(line, ' ');
+        let taken = taken.as_bytes();
         match word {
             "" => Ok(()),
-            "Fresh" => self.fresh(rt, parsed(taken)?),
-            "Read" => answer(rt, read(taken, record)?),
+            "Fresh" => self.fresh(rt, digits(taken) as usize),
+            "Read" => answer(rt, read(taken, record)),
             "Lent" => {
-                decoded(taken, record)?;
+                spelled(taken, record);
                 Ok(())
             }
-            "Placard" => placard(rt, parsed(taken)?, record),
+            "Placard" => placard(rt, digits(taken) as usize, record),
             "Check" => check(rt, record),
             "Centre" => centre(rt, record),
             _ => call(rt, line, record),

@@ -8,15 +8,15 @@ ghost use Rattle.paper.specs.File.{values_of, fields_bytes, entry_bytes, take_en
 ghost use Rattle.format.specs.Rows.{fields_at};
 ghost use Rattle.entries.specs.Taking.{Takes, take_kind};
 
-use kinds::Stored;
+use kinds::{Stored, entry_from};
 use paper::{Change, Entry, Kind, Paired, Seat, Sheet, Weighing};
 
 // A kind, and behind it the fields of an entry, at the front of a slice. The answer is how many bytes they take.
-fn put_stored<T: Stored>(out: &mut [u8], kind: Kind, x: T) -> usize
+fn put_stored<T: Stored>(out: &mut [u8], x: T) -> usize
     requires { 1 + T.LENGTH ≤ length out.old }
-    ensures { (result ≡ 1 + T.LENGTH) × (out.new ≡ written out.old 0 (code_of kind ∷ fields_bytes (fields_at T.kind) (values_of (T.entry x)))) }
+    ensures { (result ≡ 1 + T.LENGTH) × (out.new ≡ written out.old 0 (code_of T.KIND ∷ fields_bytes (fields_at (code_of T.KIND)) (values_of (T.entry x)))) }
 {
-    out[0] = kind as u8;
+    out[0] = T::KIND as u8;
     x.put(&mut out[1..]);
     1 + T::LENGTH
 }
@@ -27,11 +27,11 @@ pub fn put_entry(out: &mut [u8], e: Entry) -> usize
     ensures { (result ≡ length (entry_bytes e)) × (out.new ≡ written out.old 0 (entry_bytes e)) }
 {
     match e {
-        Entry::Weighing(w) => put_stored(out, Kind::Weighing, w),
-        Entry::Sheet(s) => put_stored(out, Kind::Sheet, s),
-        Entry::Change(x) => put_stored(out, Kind::Change, x),
-        Entry::Paired(x) => put_stored(out, Kind::Paired, x),
-        Entry::Seat(f) => put_stored(out, Kind::Seat, f),
+        Entry::Weighing(w) => put_stored(out, w),
+        Entry::Sheet(s) => put_stored(out, s),
+        Entry::Change(x) => put_stored(out, x),
+        Entry::Paired(x) => put_stored(out, x),
+        Entry::Seat(f) => put_stored(out, f),
     }
 }
 
@@ -51,14 +51,11 @@ pub fn length_of(e: Entry) -> usize
 // The fields of a kind of entry, taken off the front of some bytes; none where there are too few.
 #[inline(always)]
 fn take_stored<T: Stored>(s: &mut &[u8]) -> Option<Entry>
-    ensures { Takes (take_kind T.kind s.old.now) result s.new.now }
+    ensures { Takes (take_kind (code_of T.KIND) s.old.now) result s.new.now }
 {
-    let fields = *s;
-    if fields.len() < T::LENGTH {
-        return None;
-    }
-    *s = &fields[T::LENGTH..];
-    Some(T::entry_from(fields))
+    let (fields, rest) = s.split_at_checked(T::LENGTH)?;
+    *s = rest;
+    Some(entry_from::<T>(fields))
 }
 
 // An entry, taken off the front of some bytes; none where they begin with no entry.

@@ -57,7 +57,7 @@ pub fn write(r: &Record, out: &mut [u8]) -> Result<usize, Refusal>
     if out.len() < length {
         return Err(Refusal::ShortBuffer);
     }
-    header::put_header(out, length - 4, list.len());
+    header::put_header(out, length, list.len());
     put_entries(out, list);
     Ok(length)
 }

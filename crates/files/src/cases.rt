@@ -1,40 +1,29 @@
 // A line of output for each case.
 use crate::{trial, written};
-use paper::Refusal;
-use record::Record;
-use script::texts::{parsed, parted};
+use script::calls::Case;
+use script::texts::{digits, lettered, parted};
 use std::io;
 
-// What a case asks, by its letter and what stands behind that.
-fn done(
-    rt: &impl Print,
-    log: &mut Record,
-    asked: &str,
-    last: Result<(), Refusal>,
-) -> io::Result<()> {
-    let (letter, taken) = asked.split_at_checked(1).ok_or(io::ErrorKind::InvalidData)?;
+// What a case asks, by its letter and what stands behind that. Any other letter writes the file, as i does.
+fn done(rt: &impl Print, case: Case, asked: &str) -> io::Result<()> {
+    let Case { log, last, .. } = case;
+    let (letter, taken) = lettered(asked);
     match letter {
         "t" => trial::tried(rt, taken),
         "r" => {
-            let answer = trial::read(log, taken)?;
+            let answer = trial::read(log, taken);
             trial::kept(rt, answer, log)
         }
         "c" => trial::kept(rt, last, log),
         "w" => written::shown(rt, log),
-        "i" => written::into(rt, log, parsed(taken)?),
-        _ => Err(io::ErrorKind::InvalidData.into()),
+        _ => written::into(rt, log, digits(taken.as_bytes()) as usize),
     }
 }
 
-// A case's head, what it asks and its label, the record that its calls leave, and what the last of them answers.
-pub fn tried(
-    rt: &impl Print,
-    log: &mut Record,
-    head: &str,
-    last: Result<(), Refusal>,
-) -> io::Result<()> {
-    let (asked, label) = parted(head, ' ')?;
+// A case, whose head is what it asks, and its label.
+pub fn tried(rt: &impl Print, case: Case) -> io::Result<()> {
+    let (asked, label) = parted(case.head, ' ');
     print!(rt; "{label}:")?;
-    done(rt, log, asked, last)?;
+    done(rt, case, asked)?;
     println!(rt)
 }

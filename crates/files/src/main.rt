@@ -31,8 +31,6 @@ const BLOCKS: usize = 25;
 fn main(rt: HostRuntime) -> io::Result<()> {
     let mut buffer = [0u8; BLOCK];
     each_block(&mut rt.reader(), &mut buffer, BLOCKS, |block| {
-        each_case(block, |log, head, last| {
-            cases::tried(&rt, log, head, last)
-        })
+        each_case(block, |case| cases::tried(&rt, case))
     })
 }

@@ -1,16 +1,14 @@
 // A file read, and what comes of it.
-use header::Version;
-use lines::{Centre, number, sum, written};
-use paper::Refusal;
+use crate::written::counted;
+use header::{Header, Version};
+use lines::{Centre, sum, written};
+use paper::{Refusal, number};
 use record::Record;
-use script::texts::decoded;
+use script::texts::{SPELLED, spelled};
 use std::io;
 
 // A fresh record's file.
 const FRESH: [u8; 6] = [0, 0, 0, 2, Version::WRITTEN as u8, 0];
-
-// Room for the bytes of a line.
-const ROOM: usize = 4096;
 
 // `other` where the record's file is not s.
 fn compared(rt: &impl Print, log: &Record, s: &[u8]) -> io::Result<()> {
@@ -23,11 +21,11 @@ fn compared(rt: &impl Print, log: &Record, s: &[u8]) -> io::Result<()> {
 
 // The bytes that digits of sixteen spell, read into a fresh record, and whether that then has the file that it should.
 pub fn tried(rt: &impl Print, digits: &str) -> io::Result<()> {
-    let mut room = [0u8; ROOM];
-    let s = decoded(digits, &mut room)?;
+    let mut room = [0u8; SPELLED];
+    let s = spelled(digits.as_bytes(), &mut room);
     let mut log = Record::fresh();
     let answer = file::read(&mut log, s);
-    if let Some(version) = s.get_mut(4) {
+    if let Some(version) = s.get_mut(Header::VERSION) {
         *version = Version::WRITTEN as u8;
     }
     match answer {
@@ -45,20 +43,13 @@ pub fn tried(rt: &impl Print, digits: &str) -> io::Result<()> {
 // The number that a call answered, and the record that it left.
 pub fn kept(rt: &impl Print, last: Result<(), Refusal>, log: &Record) -> io::Result<()> {
     let mut out = [0u8; file::LONGEST];
-    let answer = written(file::write, log, &mut out);
-    let s = answer.unwrap_or(b"");
-    print!(rt;
-        " {} {} {} {} {}",
-        number(&last),
-        Centre(log.centre_of_gravity()),
-        number(&answer),
-        s.len(),
-        sum(s)
-    )
+    print!(rt; " {}", number(&last))?;
+    let s = counted(rt, log, &mut out)?;
+    print!(rt; "{}", sum(s))
 }
 
 // The bytes that digits of sixteen spell, read into a record.
-pub fn read(log: &mut Record, digits: &str) -> io::Result<Result<(), Refusal>> {
-    let mut room = [0u8; ROOM];
-    Ok(file::read(log, decoded(digits, &mut room)?))
+pub fn read(log: &mut Record, digits: &str) -> Result<(), Refusal> {
+    let mut room = [0u8; SPELLED];
+    file::read(log, spelled(digits.as_bytes(), &mut room))
 }

@@ -1,25 +1,29 @@
 // A record's file, written.
-use lines::{Centre, lent, number, sum, unwritten, written};
+use lines::{BEHIND, Centre, lent, split, sum, unwritten, written};
+use paper::number;
 use record::Record;
 use std::io;
 
-// The most bytes that are lent, and how many behind them are looked at.
+// The most bytes that are lent.
 const ROOM: usize = 4080;
 
-const BEHIND: usize = 16;
-
-// The centre of gravity, and the file's number, length and bytes in digits of sixteen.
-pub fn shown(rt: &impl Print, log: &Record) -> io::Result<()> {
-    let mut out = [0u8; file::LONGEST];
-    let answer = written(file::write, log, &mut out);
-    let s = answer.unwrap_or(b"");
+// The centre of gravity, and the file's number and length. The answer is the file.
+pub fn counted<'a>(rt: &impl Print, log: &Record, out: &'a mut [u8]) -> io::Result<&'a [u8]> {
+    let answer = written(file::write, log, out);
+    let refused = number(&answer);
+    let s = answer.unwrap_or_default();
     print!(rt;
-        " {} {} {} ",
+        " {} {refused} {} ",
         Centre(log.centre_of_gravity()),
-        number(&answer),
         s.len()
     )?;
-    for x in s {
+    Ok(s)
+}
+
+// The same, and the file's bytes in digits of sixteen.
+pub fn shown(rt: &impl Print, log: &Record) -> io::Result<()> {
+    let mut out = [0u8; file::LONGEST];
+    for x in counted(rt, log, &mut out)? {
         print!(rt; "{x:02x}")?;
     }
     Ok(())
@@ -30,9 +34,7 @@ pub fn into(rt: &impl Print, log: &Record, n: usize) -> io::Result<()> {
     let mut room = [0xAAu8; ROOM + BEHIND];
     let looked_at = lent(&mut room, n.saturating_add(BEHIND));
     let answer = file::write(log, lent(looked_at, n));
-    let (s, behind) = looked_at
-        .split_at_checked(answer.unwrap_or(0))
-        .ok_or(io::ErrorKind::InvalidData)?;
+    let (s, behind) = split(looked_at, answer.unwrap_or_default());
     print!(rt;
         " {} {} {} {}",
         number(&answer),

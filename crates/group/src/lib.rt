@@ -12,7 +12,7 @@ ghost use Rattle.group.specs.Shared.{FieldsOf};
 use aboard::{Arms, Laden};
 use balance::Balance;
 use limits::Front;
-use paper::{MOST_ROWS, Weight};
+use paper::{MOST_ROWS, weight};
 use seat::InForce;
 
 // How many bytes a line has.
@@ -66,7 +66,7 @@ impl Terms {
         let mut x = self.front.arms.beside(b, rear);
         let span = self
             .front
-            .with_none(&x, b.nonlifting + Weight::HALVES * rear);
+            .with_none(&x, b.nonlifting + weight::HALVES * rear);
         let field = line::field(rear);
         let mut none = 0;
         for (k, &water) in fields.iter().enumerate() {

@@ -14,7 +14,7 @@ use Rattle.laws.specs.Tests.{left}
 use Rattle.paper.specs.File.{number_of, is_version}
 use Rattle.header.specs.declared.Version.{Version}
 use Rattle.header.specs.declared.Version.TheVariants as version
-use Rattle.header.specs.declared.UnknownVersion.{UnknownVersion}
+use Rattle.paper.specs.declared.Unknown.{Unknown}
 use Rattle.header.specs.Versions.{Decodes}
 use Rattle.header.specs.Versions as versions
 use Rattle.header.specs.Header.{headed}
@@ -52,11 +52,11 @@ right xs h f v e =
 
 -- ---- as the code has it
 
-pub decoded : (n : ℕ) (r : Result Version UnknownVersion) (v : Version) → Decodes n r → Some v ≡ result_ok r → versions.number_of v ≡ n
+pub decoded : (n : ℕ) (r : Result Version Unknown) (v : Version) → Decodes n r → Some v ≡ result_ok r → versions.number_of v ≡ n
 decoded n (Ok w) v d e = let same : w ≡ v = cc in ap versions.number_of (sym same) ∙ d
 decoded n (Err u) v d e = cc
 
-pub not_decoded : (n : ℕ) (r : Result Version UnknownVersion) → Decodes n r → None ≡ result_ok r → (v : Version) → versions.number_of v ≡ n → ⊥
+pub not_decoded : (n : ℕ) (r : Result Version Unknown) → Decodes n r → None ≡ result_ok r → (v : Version) → versions.number_of v ≡ n → ⊥
 not_decoded n (Ok w) d e = cc
 not_decoded n (Err u) d e = d.1
 

@@ -1,17 +1,17 @@
 #![tactic(auto)]
 
 // The header of a record's file: its length, its version, and the kinds of entry that a version has.
-ghost use Rattle.std.specs.Prelude.{◌≡◌, ◌≤◌, length};
+ghost use Rattle.std.specs.Prelude.{◌≡◌, ◌-◌, ◌≤◌, length};
 ghost use Rattle.laws.specs.Written.{written};
 ghost use Rattle.paper.specs.Numbers.{code_of};
 ghost use Rattle.paper.specs.File.{last_kind};
 ghost use Rattle.header.specs.Versions.{number_of, Decodes};
 ghost use Rattle.header.specs.Header.{header_of, TakesHeader};
 
-use paper::Kind;
+use paper::{Kind, Unknown};
 
 // The versions of a file.
-#[derive(Clone, Copy, PartialEq, Eq)]
+#[derive(Clone, Copy)]
 pub enum Version {
     First = 1,
     Second = 2,
@@ -32,20 +32,16 @@ impl Version {
     }
 }
 
-// A number that no version has.
-#[derive(Clone, Copy, PartialEq, Eq)]
-pub struct UnknownVersion(pub u8);
-
 impl TryFrom<u8> for Version {
-    type Error = UnknownVersion;
+    type Error = Unknown;
 
     ghost try_from_gives = { Decodes };
 
-    fn try_from(number: u8) -> Result<Self, UnknownVersion> {
+    fn try_from(number: u8) -> Result<Self, Unknown> {
         match number {
             1 => Ok(Version::First),
             2 => Ok(Version::Second),
-            _ => Err(UnknownVersion(number)),
+            _ => Err(Unknown(number)),
         }
     }
 }
@@ -60,16 +56,19 @@ pub struct Header {
 impl Header {
     // The length, the version and the count of entries come first.
     pub const LENGTH: usize = 6;
+
+    // The length takes so many bytes, and the version stands behind it.
+    pub const VERSION: usize = 4;
 }
 
-// The header: the length of all that follows it, the version, and the count of entries.
-pub fn put_header(out: &mut [u8], behind: usize, count: usize)
-    requires { 6 ≤ length out.old }
-    ensures { out.new ≡ written out.old 0 (header_of behind count) }
+// The header of a file that ends at `end`: the length of all that follows it, the version, and the count of entries.
+pub fn put_header(out: &mut [u8], end: usize, count: usize)
+    requires { (6 ≤ length out.old) × (6 ≤ end) }
+    ensures { out.new ≡ written out.old 0 (header_of (end - 4) count) }
 {
-    words::put_number(out, 0, 4, behind as u64);
-    out[4] = Version::WRITTEN as u8;
-    words::put_number(out, 5, 1, count as u64);
+    words::put_number(&mut out[..Header::VERSION], (end - Header::VERSION) as u64);
+    out[Header::VERSION] = Version::WRITTEN as u8;
+    words::put_number(&mut out[Header::VERSION + 1..Header::LENGTH], count as u64);
 }
 
 // The header that some bytes begin with, and what stands behind it; none where the length or the version is not right.

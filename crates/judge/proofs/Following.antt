@@ -3,8 +3,10 @@ use mathlib.Core.Path.{◌≡◌, refl, ◌∙◌, ap}
 use mathlib.Core.Bool.{Bool, true, false, cond, not}
 use mathlib.Core.List.{List, [], ◌∷◌, ◌++◌}
 use mathlib.Core.Option.{Option, none, some, map, or_else}
-use Prim.Native.Nat.{ℕ}
+use Prim.Native.Nat.{ℕ, ◌<◌}
+use native.Mathlib.Omega.{arith}
 use lib.Dec.{eqb}
+use borrow.Author.Tests.{eq-eqb, ne_eqb}
 use Rattle.laws.specs.Lists.{length_more}
 use Rattle.paper.specs.declared.Sheet.{Sheet}
 use Rattle.paper.specs.declared.Change.{Change}
@@ -110,6 +112,15 @@ number_at_lem es (entry.Sheet s) = refl
 number_at_lem es (entry.Change x) = refl
 number_at_lem es (entry.Paired x) = refl
 number_at_lem es (entry.Seat f) = rw (sheet_in_force es)
+
+-- an entry that gets no number there is kept behind the list, and one that gets a number is not
+pub kept_added : (es : List Entry) (e : Entry) → entry_number es e ≡ 0 → kept_behind es e ≡ es ++ e ∷ []
+unfolding kept_behind
+kept_added es e n = rw (eq-eqb (entry_number es e) 0 n)
+
+pub kept_same : (es : List Entry) (e : Entry) → 0 < entry_number es e → kept_behind es e ≡ es
+unfolding kept_behind
+kept_same es e n = rw (ne_eqb (entry_number es e) 0 (λ z. omega arith))
 
 -- a judgement by what stands in a list: the entry's number on it, and what stands where it is kept behind it
 pub judged_in : (es : List Entry) (e : Entry) → judged (stands_in es) e ≡ (entry_number es e, stands_in (kept_behind es e))

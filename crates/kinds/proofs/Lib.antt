@@ -1,4 +1,3 @@
--- What the proofs share: the values of a list as they are held, and fields one behind the other, read and put.
-pub mod Held
+-- What the proofs share: what a source gives, and fields one behind the other, put.
 pub mod Read
 pub mod Put

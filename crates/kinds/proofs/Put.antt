@@ -1,24 +1,14 @@
 -- Fields put one behind the other, each into the part of a buffer that is its own. Assumes nothing.
-use Rattle.std.proofs.Common.{◌≡◌, ℕ, ◌+◌, ◌^◌, ◌≤◌, ◌<◌, ℤ, List, [], ◌∷◌, ◌++◌, length, take, drop, sym, ap, ◌∙◌, arith, length-append, length-drop, append-nil, append_assoc}
+use Rattle.std.proofs.Common.{◌≡◌, ℕ, ◌+◌, ◌^◌, ◌≤◌, ◌<◌, ℤ, List, [], ◌∷◌, length, take, drop, sym, ap, ◌∙◌, arith, length-append}
 use mir.Syntax.{w64}
 use mir.Val.{hbits, to_z, of_z}
 use mir.Facts.{to_z-of_z}
 use lib.Signed.{mag}
-use lib.Seq.{length-take-le, drop-drop}
 use borrow.Rule.Slice.PartMut.{put_mid}
-use Rattle.std.proofs.Math.Seq.{drop-length}
-use Rattle.laws.specs.Written.{written, written_none, written_first, length-written, written-more}
+use Rattle.laws.specs.Written.{written, written_none, length-written, written-more}
 use Rattle.paper.specs.File.{Field, bytes_of, complement, field_bytes, fields_bytes}
 use Rattle.format.specs.Numbers.{length-bytes}
-
--- what is written over the whole
-pub whole-written : (s xs : List ℕ) → length xs ≡ length s → written s 0 xs ≡ xs
-whole-written s xs e = written_first s xs ∙ ap (λ (k : ℕ). xs ++ drop k s) e ∙ ap (λ (t : List ℕ). xs ++ t) (drop-length s) ∙ append-nil xs
-
--- what is written over a part is written into the whole
-pub middle-written : (s last xs : List ℕ) (at k : ℕ) → length xs ≡ k → last ≡ xs → take at s ++ (last ++ drop k (drop at s)) ≡ written s at xs
-unfolding written
-middle-written s last xs at k e m = rw (m, ← e, drop-drop (length xs) at s, append_assoc (take at s) xs (drop (at + length xs) s))
+use Rattle.words.proofs.Parts.{part_put}
 
 -- the fields end as they are put, where there is room for them
 unfoldable pub Put : List Field → List ℤ → List ℕ → ℕ → List ℕ → Type 0
@@ -41,8 +31,7 @@ then_put f fs v vs s at last end m q h =
     let ys = fields_bytes fs vs in
     let k : length xs ≡ f.width = length-bytes f.width (complement f.width v) in
     let both = length-append xs ys in
-    let room : length (take f.width (drop at s)) ≡ f.width = length-take-le f.width (drop at s) (omega (arith, length-drop at s, both, k)) in
-    let put = middle-written s last xs at f.width k (m ∙ ap (λ n. bytes_of n (complement f.width v)) room) in
+    let put = part_put s last at f.width (complement f.width v) (omega (arith, both, k)) m in
     let kept = length-written s at xs (omega (arith, both)) in
     q (omega (arith, ap length put, kept, both, k))
     ∙ ap (λ t. written t (at + f.width) ys) put

@@ -6,8 +6,10 @@ ghost use Rattle.paper.specs.Numbers.{code_of};
 ghost use Rattle.paper.specs.File.{entry_of};
 ghost use Rattle.language.specs.Lines.{kind_named, other_words, values_from, candidate, says};
 
-use kinds::{FIELDS, Stored};
 use paper::{Change, Entry, Kind, Paired, Seat, Sheet, Weighing};
+
+// The most values that a kind has.
+const FIELDS: usize = 15;
 
 // What a line says.
 #[derive(Clone, Copy)]
@@ -45,11 +47,11 @@ fn entry_of(kind: Kind, v: &[i64]) -> Entry
     ensures { result ≡ entry_of (code_of kind) v.now }
 {
     match kind {
-        Kind::Weighing => Weighing::entry_of(v),
-        Kind::Sheet => Sheet::entry_of(v),
-        Kind::Change => Change::entry_of(v),
-        Kind::Paired => Paired::entry_of(v),
-        Kind::Seat => Seat::entry_of(v),
+        Kind::Weighing => kinds::entry_of::<Weighing>(v),
+        Kind::Sheet => kinds::entry_of::<Sheet>(v),
+        Kind::Change => kinds::entry_of::<Change>(v),
+        Kind::Paired => kinds::entry_of::<Paired>(v),
+        Kind::Seat => kinds::entry_of::<Seat>(v),
     }
 }
 

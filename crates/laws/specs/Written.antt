@@ -64,6 +64,10 @@ pub written_first : {A : Type 0} (s : List A) (xs : List A) → written s 0 xs �
 unfolding written
 written_first s xs = let e : 0 + length xs ≡ length xs = omega arith in rw e
 
+-- over the whole
+pub whole-written : {A : Type 0} (s xs : List A) → length xs ≡ length s → written s 0 xs ≡ xs
+whole-written s xs e = rw (written_first s xs, e, drop-length s, append-nil xs)
+
 -- behind the first k
 pub written_follows : {A : Type 0} (s xs ys : List A) (k : ℕ) → length xs ≡ k → k ≤ length s → written (written s 0 xs) k ys ≡ written s 0 (xs ++ ys)
 written_follows s xs ys k e h =
@@ -120,6 +124,11 @@ part-written xs ls at =
 -- what is written into the part is written into the whole
 pub written-part : {A : Type 0} (xs last ls : List A) (at : ℕ) → last ≡ written (take (length xs - at) (drop at xs)) 0 ls → take at xs ++ (last ++ drop (length xs - at) (drop at xs)) ≡ written xs at ls
 written-part xs last ls at e = rw e (part-written xs ls at)
+
+-- and so is what is written over a part of k elements
+pub middle-written : {A : Type 0} (s last xs : List A) (at k : ℕ) → length xs ≡ k → last ≡ xs → take at s ++ (last ++ drop k (drop at s)) ≡ written s at xs
+unfolding written
+middle-written s last xs at k e m = rw (m, ← e, drop-drop (length xs) at s, append_assoc (take at s) xs (drop (at + length xs) s))
 
 -- one element set, and the list is as long
 pub set-within : {A : Type 0} (s : List A) (i : ℕ) (x : A) (n : ℕ) → n ≤ length s → n ≤ length (set s i x)

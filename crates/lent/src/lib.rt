@@ -12,6 +12,7 @@ ghost use Rattle.lent.specs.Lent.{lent_file, lent_call, lent_read};
 
 use header::{Header, Version};
 use paper::{Entry, Refusal};
+use stored::Contents;
 
 // A fresh record at the front of the buffer: 11 where it is too short.
 pub fn fresh(buffer: &mut [u8]) -> Result<(), Refusal>
@@ -20,21 +21,21 @@ pub fn fresh(buffer: &mut [u8]) -> Result<(), Refusal>
     if buffer.len() < Header::LENGTH {
         return Err(Refusal::ShortBuffer);
     }
-    header::put_header(buffer, 2, 0);
+    header::put_header(buffer, Header::LENGTH, 0);
     Ok(())
 }
 
-// An entry behind a file, of whatever version, that ends at `end`, where the buffer has room for it: the file has `count` entries
-// then.
-fn append(buffer: &mut [u8], end: usize, count: usize, e: Entry) -> Result<(), Refusal>
-    requires { (6 ≤ end) × (end ≤ length buffer.old) }
-    ensures { (v : ℕ) (es : List Entry) → count ≡ length es + 1 → take end buffer.old ≡ file_as v es → (number_in result, buffer.new) ≡ lent_file (es ++ e ∷ []) buffer.old }
+// An entry behind a file, of whatever version, that ends where `found` says, where the buffer has room for it: the file has as many
+// entries then as stand.
+fn append(buffer: &mut [u8], found: &Contents, e: Entry) -> Result<(), Refusal>
+    requires { (6 ≤ found.now.end) × (found.now.end ≤ length buffer.old) }
+    ensures { (v : ℕ) (es : List Entry) → found.now.standing.entries ≡ length es + 1 → take found.now.end buffer.old ≡ file_as v es → (number_in result, buffer.new) ≡ lent_file (es ++ e ∷ []) buffer.old }
 {
-    if buffer.len() - end < entries::length_of(e) {
+    if buffer.len() - found.end < entries::length_of(e) {
         return Err(Refusal::ShortBuffer);
     }
-    let behind = end + entries::put_entry(&mut buffer[end..], e);
-    header::put_header(buffer, behind - 4, count);
+    let behind = found.end + entries::put_entry(&mut buffer[found.end..], e);
+    header::put_header(buffer, behind, found.standing.entries);
     Ok(())
 }
 
@@ -44,7 +45,7 @@ pub fn add(buffer: &mut [u8], e: Entry) -> Result<(), Refusal>
 {
     let mut found = front::held(buffer)?;
     found.standing.add(e)?;
-    append(buffer, found.end, found.standing.entries, e)
+    append(buffer, &found, e)
 }
 
 // Taking back: the header says one entry less, and its bytes are free.
@@ -53,7 +54,7 @@ pub fn undo(buffer: &mut [u8]) -> Result<(), Refusal>
 {
     let found = front::held(buffer)?;
     let last = found.last.ok_or(Refusal::Empty)?;
-    header::put_header(buffer, last - 4, found.standing.entries - 1);
+    header::put_header(buffer, last, found.standing.entries - 1);
     Ok(())
 }
 
@@ -66,6 +67,6 @@ pub fn read(buffer: &mut [u8], file: &[u8]) -> Result<(), Refusal>
         return Err(Refusal::ShortBuffer);
     }
     laws::copy(file, buffer);
-    buffer[4] = Version::WRITTEN as u8;
+    buffer[Header::VERSION] = Version::WRITTEN as u8;
     Ok(())
 }

@@ -1,7 +1,7 @@
 -- The front seat as the code has it, and which numbers of steps in it keep the limits.
 use Rattle.std.specs.Prelude.{◌≡◌, Bool, true, ◌&&◌, ℕ, ◌+◌, ◌*◌, ℤ, leb}
 use Rattle.laws.specs.declared.Sides.{Sides}
-use Rattle.laws.specs.Sides.{difference_of}
+use Rattle.laws.specs.Sides.{difference_of, times_of}
 use Rattle.paper.specs.declared.Sheet.{Sheet}
 use Rattle.paper.specs.declared.Seat.{Seat}
 use Rattle.paper.specs.Record.{Balance}
@@ -17,7 +17,7 @@ abbrev pub forward_margin : Laden → Sides
 forward_margin x = difference_of x.moment x.forward
 
 abbrev pub safe_margin : Laden → Sides
-safe_margin x = record { up = 20 * x.moment.down + x.safe.up; down = 20 * x.moment.up + x.safe.down }
+safe_margin x = difference_of x.safe (times_of 20 x.moment)
 
 -- k steps are a load from the least to the greatest
 abbrev pub in_seat : Sheet → ℕ → Bool

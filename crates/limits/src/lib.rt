@@ -2,7 +2,7 @@
 
 // The lines of limits, solved for the number of front steps: each narrows a span of numbers. What is aboard beside the front load
 // is in half grams, and so is all that is reckoned here.
-ghost use Rattle.std.specs.Prelude.{◌≡◌, ◌&&◌, ◌||◌, true, ℕ, ◌+◌, ◌*◌, leb, eqb, pos, ◌+ℤ◌};
+ghost use Rattle.std.specs.Prelude.{◌≡◌, ◌&&◌, ◌||◌, true, ℕ, ◌+◌, ◌*◌, eqb, pos, ◌+ℤ◌};
 ghost use Rattle.paper.specs.Units.{is_arm, half_grams};
 ghost use Rattle.paper.specs.Record.{Balance};
 ghost use Rattle.aboard.specs.Aboard.{Beside, Room};
@@ -11,7 +11,7 @@ ghost use Rattle.limits.specs.Seats.{forward_margin, safe_margin, weight_test, f
 
 use aboard::{Arms, Laden};
 use laws::Sides;
-use paper::Weight;
+use paper::weight;
 use seat::InForce;
 use solver::Span;
 
@@ -41,10 +41,7 @@ fn safe_margin(x: &Laden) -> Sides
     requires { Room 256 x.now }
     ensures { result ≡ safe_margin x.now }
 {
-    Sides {
-        up: 20 * x.moment.down + x.safe.up,
-        down: 20 * x.moment.up + x.safe.down,
-    }
+    x.safe - x.moment * 20
 }
 
 // The numbers of steps from the least front load to the greatest, and to at least a gram, since somebody is in the seat.
@@ -131,9 +128,9 @@ impl Front {
         ensures { let f = self.now.arms.force in Seated f.sheet result × ((b : Balance) (rear : ℕ) → Beside f.sheet b rear 0 x.now → pos nonlifting ≡ b.non_lifting +ℤ half_grams (pos rear) → NoneOf f.sheet f.seat b rear result) }
     {
         let s = &self.arms.force.sheet;
-        let span = self.weight_limit(self.steps, x.weight, Weight::HALVES * s.dry);
-        let span = self.weight_limit(span, x.weight, Weight::HALVES * s.wet);
-        let span = self.non_lifting_limit(span, nonlifting, Weight::HALVES * s.nlp);
+        let span = self.weight_limit(self.steps, x.weight, weight::HALVES * s.dry);
+        let span = self.weight_limit(span, x.weight, weight::HALVES * s.wet);
+        let span = self.non_lifting_limit(span, nonlifting, weight::HALVES * s.nlp);
         let span = self.fwd_limit(span, x);
         self.aft_limit(span, x)
     }
@@ -145,7 +142,7 @@ impl Front {
         ensures { let f = self.now.arms.force in ((k : ℕ) → within result k ≡ true → within span k ≡ true) × ((b : Balance) (rear w : ℕ) → Beside f.sheet b rear w x.now → NoneOf f.sheet f.seat b rear span → AllOf f.sheet f.seat b rear w result) }
     {
         let s = &self.arms.force.sheet;
-        let wet = self.weight_limit(span, x.weight, Weight::HALVES * s.wet);
+        let wet = self.weight_limit(span, x.weight, weight::HALVES * s.wet);
         if s.water.arm < s.fwd {
             return self.fwd_limit(wet, x);
         }

@@ -9,11 +9,10 @@ ghost use Rattle.line.specs.Word.{packed, word, bytes, Packed, quotients, apart}
 
 use paper::Row;
 
-// `--------` as a word.
-const HYPHENS: u64 = 3_255_307_777_713_450_285;
+// `--------` as a word, and `0000.000`: the first byte is the lowest.
+const HYPHENS: u64 = 0x2D2D_2D2D_2D2D_2D2D;
 
-// `0000.000` as a word.
-const NOUGHT: u64 = 3_472_328_287_637_745_712;
+const NOUGHT: u64 = 0x3030_302E_3030_3030;
 
 // Two numbers below 10000, each in a half of u, by 100. Times 5243 / 2^19 is near enough, and divides both at once; the mask keeps
 // each quotient.

@@ -1,8 +1,7 @@
 #![tactic(auto)]
 
 // What the programs print, and what they take and how they read it.
-ghost use Rattle.std.specs.Prelude.{◌≡◌, ◌≤◌, length, take, IfOk, MatchResult};
-ghost use Rattle.paper.specs.Numbers.{number_in};
+ghost use Rattle.std.specs.Prelude.{◌≡◌, ◌≤◌, [], length, take, drop, IfOk, MatchResult};
 ghost use Rattle.lines.specs.Written.{Writes};
 
 use paper::{CentreOfGravity, Refusal};
@@ -29,29 +28,14 @@ impl fmt::Display for Centre {
     }
 }
 
-// The number of an answer, 0 where the call is accepted.
-pub fn number<A>(answer: &Result<A, Refusal>) -> u64
-    ensures { result ≡ number_in answer.now }
-{
-    match answer {
-        Ok(_) => 0,
-        Err(refusal) => u64::from(*refusal),
-    }
-}
-
 // Reads until the buffer is full or there is no more. The answer is the part of it that is filled.
 pub fn read_full<'a>(from: &mut impl Read, out: &'a mut [u8]) -> io::Result<&'a [u8]>
     ensures { IfOk result (λ s. length s.now ≤ length out.old) }
 {
-    let mut at = 0;
-    for _ in 0..out.len() {
-        let n = from.read(&mut out[at..])?;
-        if n == 0 {
-            break;
-        }
-        at += n;
-    }
-    Ok(&out[..at])
+    let room = out.len() as u64;
+    let mut rest = &mut out[..];
+    let n = io::copy(&mut from.take(room), &mut rest)?;
+    Ok(first(out, n as usize))
 }
 
 // The input in so many blocks, each as long as the buffer where there is as much, and handed on in turn.
@@ -69,11 +53,19 @@ pub fn each_block<R: Read, F: FnMut(&[u8]) -> io::Result<()>>(
     Ok(())
 }
 
+// The first n bytes, or all where there are fewer, and those behind them.
+pub fn split(s: &[u8], n: usize) -> (&[u8], &[u8])
+    ensures first { result.0.now ≡ take n s.now }
+    ensures behind { result.1.now ≡ drop n s.now }
+{
+    s.split_at(n.min(s.len()))
+}
+
 // The first n bytes, or all where there are fewer.
 pub fn first(s: &[u8], n: usize) -> &[u8]
     ensures { result.now ≡ take n s.now }
 {
-    &s[..n.min(s.len())]
+    split(s, n).0
 }
 
 // The same of a buffer, which is lent.
@@ -97,11 +89,26 @@ pub fn written<'a, F: FnOnce(&Record, &mut [u8]) -> Result<usize, Refusal>>(
     Ok(first(out, n))
 }
 
+// The same, with nothing for a refusal.
+pub fn written_or_empty<'a, F: FnOnce(&Record, &mut [u8]) -> Result<usize, Refusal>>(
+    call: F,
+    log: &Record,
+    out: &'a mut [u8],
+) -> &'a [u8]
+    requires { F.IsAlwaysCallable call }
+    ensures { (r : _) × (new : _) × Writes F.FnOnce call log.now out.old r new × MatchResult r (λ n. result.now ≡ take n new) (λ why. result.now ≡ []) }
+{
+    written(call, log, out).unwrap_or_default()
+}
+
 // The sum of bytes, in which each place counts.
 pub fn sum(s: &[u8]) -> u64 {
     s.iter()
         .fold(0, |n: u64, x| n % 1_000_003 * 257 + u64::from(*x))
 }
+
+// How many bytes behind those that are lent are looked at.
+pub const BEHIND: usize = 16;
 
 // How many bytes are AA, which a buffer has before it is lent.
 pub fn unwritten(s: &[u8]) -> usize

@@ -12,9 +12,8 @@ use Rattle.paper.specs.declared.Refusal.{Refusal}
 use Rattle.paper.specs.Refusals.{entry_number}
 use Rattle.paper.specs.Answers.{centre_answer}
 use Rattle.judge.specs.Standing.{Stands, stands_in, judged, kept_behind}
-use Rattle.judge.proofs.Following.{judged_at}
+use Rattle.judge.proofs.Following.{kept_added, kept_same, judged_at}
 use Rattle.judge.proofs.Accepted.{room_for}
-use Rattle.record.proofs.Turns.{kept_added, kept_same}
 use Rattle.record.proofs.Replays.{held_to, held_more}
 use Rattle.listing.specs.Listings.{lines_of, listing}
 use Rattle.listing.proofs.Sizes.{lines_most, listing_most}

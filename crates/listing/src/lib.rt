@@ -8,7 +8,7 @@ ghost use Rattle.listing.specs.Listings.{halves, signed_halves, comment, remark,
 
 use arrayvec::ArrayString;
 use judge::Standing;
-use paper::{CentreOfGravity, Entry, Refusal, Weight};
+use paper::{CentreOfGravity, Entry, Refusal, weight};
 use record::Record;
 
 // Room for every listing: 64 entries, each with its comment of at most 430 bytes.
@@ -21,8 +21,8 @@ fn put_halves(text: &mut Text, n: u64)
     requires { array_string_len text.old + length (halves n) ≤ 27520 }
     ensures { text.new.bytes ≡ text.old.bytes ++ halves n }
 {
-    numerals::put_size(text, n / Weight::HALVES);
-    if n % Weight::HALVES == 1 {
+    numerals::put_number(text, n / weight::HALVES);
+    if n % weight::HALVES == 1 {
         text.push_str(".5");
     }
 }

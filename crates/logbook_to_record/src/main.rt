@@ -2,7 +2,7 @@
 
 // Reads a logbook on standard input and writes its record's file on standard output. Where a line is refused or not
 // understood it writes no file, and says so in a line on standard error.
-use lines::written;
+use lines::written_or_empty;
 use record::Record;
 use std::io;
 
@@ -11,7 +11,7 @@ const TEXT: usize = 65536;
 
 fn write(rt: &impl Print, r: &Record) -> io::Result<()> {
     let mut out = [0u8; file::LONGEST];
-    rt.write_all(written(file::write, r, &mut out).unwrap_or(b""))
+    rt.write_all(written_or_empty(file::write, r, &mut out))
 }
 
 // The buffer has one byte more than a logbook may have, which tells a longer input.

@@ -1,7 +1,7 @@
 // The cases on standard input, a tilde behind each. A line for each: how it ends; or how many bytes its file and its listing
 // have, with their sums, and `again` where the file comes back through its text. The listing follows where it is short.
 use crate::again::same_again;
-use lines::{each_block, sum, written};
+use lines::{each_block, sum, written_or_empty};
 use record::Record;
 use std::io;
 
@@ -15,7 +15,7 @@ const SHORT: usize = 160;
 
 fn listed(rt: &impl Print, log: &Record) -> io::Result<()> {
     let mut out = [0u8; listing::LONGEST];
-    let text = written(listing::show, log, &mut out).unwrap_or(b"");
+    let text = written_or_empty(listing::show, log, &mut out);
     println!(rt; " text {} {}", text.len(), sum(text))?;
     if text.len() <= SHORT {
         rt.write_all(text)?;
@@ -25,7 +25,7 @@ fn listed(rt: &impl Print, log: &Record) -> io::Result<()> {
 
 fn whole(rt: &impl Print, log: &Record) -> io::Result<()> {
     let mut out = [0u8; file::LONGEST];
-    let s = written(file::write, log, &mut out).unwrap_or(b"");
+    let s = written_or_empty(file::write, log, &mut out);
     print!(rt; "file {} {}", s.len(), sum(s))?;
     if same_again(s) {
         print!(rt; " again")?;

@@ -1,6 +1,6 @@
 // The samples: each logbook has the placard that is stored beside it, and its file comes back through its text.
 use crate::again::same_again;
-use lines::{first, read_full, written};
+use lines::{first, read_full, written_or_empty};
 use paper::Placard;
 use record::Record;
 use std::fs::File;
@@ -25,18 +25,20 @@ const SAMPLES: [(&str, &str); 11] = [
     ("astir_cs_seat_back.txt", "astir_cs_seat_back.placard"),
 ];
 
-// What a file holds, at the front of a buffer.
-fn read<'a>(rt: &impl Files, path: &str, out: &'a mut [u8]) -> io::Result<&'a [u8]> {
-    let mut file = File::open(rt, path)?;
-    read_full(&mut file, out)
+// What a file holds, at the front of a buffer; nothing of one that is not found.
+fn read<'a>(rt: &(impl Files + Print), path: &str, out: &'a mut [u8]) -> io::Result<&'a [u8]> {
+    match File::open(rt, path) {
+        Ok(mut file) => read_full(&mut file, out),
+        Err(_) => {
+            print!(rt; " not found")?;
+            Ok(b"")
+        }
+    }
 }
 
 fn printed(rt: &(impl Files + Print), log: &Record, path: &str) -> io::Result<()> {
     let mut out = [0u8; plate::LONGEST];
-    let Placard { bytes, rows, blank } = match plate::placard(log, &mut out) {
-        Ok(placard) => placard,
-        Err(refusal) => return println!(rt; "{refusal}"),
-    };
+    let Placard { bytes, rows, blank } = plate::placard(log, &mut out).unwrap_or_default();
     let mut buffer = [0u8; plate::LONGEST];
     let stored = read(rt, path, &mut buffer)?;
     let same = if first(&out, bytes) == stored {
@@ -49,7 +51,7 @@ fn printed(rt: &(impl Files + Print), log: &Record, path: &str) -> io::Result<()
 
 fn filed(rt: &impl Print, log: &Record) -> io::Result<()> {
     let mut out = [0u8; file::LONGEST];
-    let s = written(file::write, log, &mut out).unwrap_or(b"");
+    let s = written_or_empty(file::write, log, &mut out);
     let again = if same_again(s) { " again" } else { "" };
     println!(rt; ", file {}{again}", s.len())
 }
@@ -57,13 +59,15 @@ fn filed(rt: &impl Print, log: &Record) -> io::Result<()> {
 fn sample(rt: &(impl Files + Print), logbook: &str, placard: &str) -> io::Result<()> {
     print!(rt; "{logbook}:")?;
     let mut input = [0u8; TEXT];
-    match book::read(read(rt, logbook, &mut input)?) {
-        Ok(log) => {
-            printed(rt, &log, placard)?;
-            filed(rt, &log)
+    let log = match book::read(read(rt, logbook, &mut input)?) {
+        Ok(log) => log,
+        Err(failure) => {
+            println!(rt; "{failure}")?;
+            Record::fresh()
         }
-        Err(failure) => println!(rt; "{failure}"),
-    }
+    };
+    printed(rt, &log, placard)?;
+    filed(rt, &log)
 }
 
 pub fn run(rt: &(impl Files + Print)) -> io::Result<()> {

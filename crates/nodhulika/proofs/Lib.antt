@@ -1,2 +1,3 @@
--- What the proofs share: numbers in an answer's buffer, and what the calls answer into it.
+-- What the proofs share: signed numbers, numbers in an answer's buffer, and what the calls answer into it.
+pub mod Signed
 pub mod Into

@@ -1,4 +1,4 @@
-#![tactic(auto)]
+#![tactic(auto, using(crate::proofs::Signed::signed), unfolding(paper::specs::Journal::call_of))]
 
 // The library for C and Rust: functions on numbers and byte slices. A record is lent as its file at the front of a buffer.
 // Each function answers by the paper's number of refusal, 0 where there is none; include/nodhulika.h is its header, and
@@ -12,34 +12,24 @@ ghost use Rattle.front.specs.Front.{held_in, check_number, centre_for};
 ghost use Rattle.lent.specs.Lent.{lent_file, lent_call, lent_read};
 ghost use Rattle.nodhulika.specs.Exported.{centre_into, placard_into};
 
-use paper::{Change, Paired, Refusal, Seat, Sheet, Station, Weighing};
+use paper::{Change, Paired, Refusal, Seat, Sheet, Station, Weighing, number};
 use words::long_of;
 
 // How many bytes the numbers of an answer take.
 pub const ANSWER: usize = 24;
 
-// The number of an answer.
-fn number(answer: Result<(), Refusal>) -> u64
-    ensures { result ≡ number_in answer }
-{
-    match answer {
-        Ok(()) => 0,
-        Err(r) => r.into(),
-    }
-}
-
 // A fresh record at the front of the buffer.
 pub fn nodhulika_fresh(buffer: &mut [u8]) -> u64
     ensures { (result, buffer.new) ≡ lent_file [] buffer.old }
 {
-    number(lent::fresh(buffer))
+    number(&lent::fresh(buffer))
 }
 
 // Whether the buffer holds a record.
 pub fn nodhulika_check(buffer: &[u8]) -> u64
     ensures { result ≡ check_number buffer.now }
 {
-    number(front::check(buffer))
+    number(&front::check(buffer))
 }
 
 // A weighing.
@@ -47,7 +37,7 @@ pub fn nodhulika_weigh(buffer: &mut [u8], m: u64, p: u64, q: u64, a: i64, b: u64
     ensures { (result, buffer.new) ≡ lent_call (journal.weigh (record { m = m; p = p; q = q; a = a; b = b; n = n })) buffer.old }
 {
     let w = Weighing { m, p, q, a, b, n };
-    number(lent::add(buffer, w.into()))
+    number(&lent::add(buffer, w.into()))
 }
 
 // A paired weighing.
@@ -74,7 +64,7 @@ pub fn nodhulika_weigh_paired(
         b,
         n,
     };
-    number(lent::add(buffer, x.into()))
+    number(&lent::add(buffer, x.into()))
 }
 
 // A data sheet.
@@ -124,7 +114,7 @@ pub fn nodhulika_sheet(
         rear,
         water,
     };
-    number(lent::add(buffer, s.into()))
+    number(&lent::add(buffer, s.into()))
 }
 
 // A change.
@@ -132,7 +122,7 @@ pub fn nodhulika_change(buffer: &mut [u8], c: i64, arm: i64, flag: u64) -> u64
     ensures { (result, buffer.new) ≡ lent_call (journal.change (record { c = c; arm = arm; flag = flag })) buffer.old }
 {
     let x = Change { c, arm, flag };
-    number(lent::add(buffer, x.into()))
+    number(&lent::add(buffer, x.into()))
 }
 
 // A seat entry.
@@ -140,21 +130,21 @@ pub fn nodhulika_seat(buffer: &mut [u8], lower: i64, higher: i64) -> u64
     ensures { (result, buffer.new) ≡ lent_call (journal.seat (record { lower = lower; higher = higher })) buffer.old }
 {
     let f = Seat { lower, higher };
-    number(lent::add(buffer, f.into()))
+    number(&lent::add(buffer, f.into()))
 }
 
 // Taking back.
 pub fn nodhulika_undo(buffer: &mut [u8]) -> u64
     ensures { (result, buffer.new) ≡ lent_call journal.undo buffer.old }
 {
-    number(lent::undo(buffer))
+    number(&lent::undo(buffer))
 }
 
 // Reading back: a file in the place of what the buffer holds.
 pub fn nodhulika_read(buffer: &mut [u8], file: &[u8]) -> u64
     ensures { (result, buffer.new) ≡ lent_read file.now buffer.old }
 {
-    number(lent::read(buffer, file))
+    number(&lent::read(buffer, file))
 }
 
 // Three words at the front of a buffer.
@@ -162,9 +152,9 @@ fn put_words(out: &mut [u8], x: u64, y: u64, z: u64)
     requires { 24 ≤ length out.old }
     ensures { out.new ≡ written out.old 0 (bytes_of 8 x ++ (bytes_of 8 y ++ bytes_of 8 z)) }
 {
-    words::put_number(out, 0, 8, x);
-    words::put_number(out, 8, 8, y);
-    words::put_number(out, 16, 8, z);
+    words::put_number(&mut out[..8], x);
+    words::put_number(&mut out[8..16], y);
+    words::put_number(&mut out[16..24], z);
 }
 
 // Total, moment and centre into `answer`: 11 where it is too short.
@@ -183,7 +173,7 @@ fn centre(buffer: &[u8], answer: &mut [u8]) -> Result<(), Refusal>
 pub fn nodhulika_centre(buffer: &[u8], answer: &mut [u8]) -> u64
     ensures { (result, answer.new) ≡ centre_into (centre_for (held_in buffer.now)) answer.old }
 {
-    number(centre(buffer, answer))
+    number(&centre(buffer, answer))
 }
 
 // The placard into `out` and its counts into `answer`; where that is too short, the refusal with no byte for the placard.
@@ -204,5 +194,5 @@ fn placard(buffer: &[u8], out: &mut [u8], answer: &mut [u8]) -> Result<(), Refus
 pub fn nodhulika_placard(buffer: &[u8], out: &mut [u8], answer: &mut [u8]) -> u64
     ensures { (result, out.new, answer.new) ≡ placard_into (held_in buffer.now) out.old answer.old }
 {
-    number(placard(buffer, out, answer))
+    number(&placard(buffer, out, answer))
 }

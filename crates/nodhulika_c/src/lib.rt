@@ -1,9 +1,7 @@
 #![tactic(auto)]
 
 // The library's functions as C calls them: each states the contract of the function of the same name in nodhulika, which it calls.
-ghost use Rattle.std.specs.Prelude.{◌≡◌, [], ◌++◌, ◌≤◌, length};
-ghost use Rattle.laws.specs.Written.{written};
-ghost use Rattle.paper.specs.File.{bytes_of};
+ghost use Rattle.std.specs.Prelude.{◌≡◌, []};
 ghost use Rattle.paper.specs.Journal as journal;
 ghost use Rattle.front.specs.Front.{held_in, check_number, centre_for};
 ghost use Rattle.lent.specs.Lent.{lent_file, lent_call, lent_read};

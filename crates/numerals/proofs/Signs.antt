@@ -1,6 +1,6 @@
 -- Numbers on either side of 0: their numerals as std prints them, and the number of a word with a minus in front and of one
 -- without. Assumes nothing.
-use mathlib.Core.Path.{◌≡◌, refl, ap, ◌∙◌}
+use mathlib.Core.Path.{◌≡◌, refl, ap}
 use mathlib.Core.Bool.{Bool, true, false, ◌&&◌, false≢true}
 use mathlib.Core.List.{List, [], ◌∷◌}
 use Prim.Native.Nat.{ℕ, suc, ◌^◌, ◌<◌}
@@ -11,8 +11,7 @@ use lib.Signed.{mag}
 use lib.ListN.{take, drop}
 use lib.Pointwise.{pointwise}
 use mir.Syntax.{w64}
-use mir.Val.{SFits, hbits, to_z, of_z}
-use mir.Facts.{to_z-of_z}
+use mir.Val.{SFits, to_z}
 use Rattle.std.specs.Fmt.{signed_decimal}
 use Rattle.laws.specs.Tests.{left}
 use Rattle.laws.specs.Z.{zs, is_bits, is_sub}
@@ -23,14 +22,10 @@ use Rattle.numerals.proofs.Lengths.{decimal_same}
 -- ---- numerals
 
 -- as std has them
-numeral_same : (z : ℤ) → mag z < 2 ^ 63 → signed_decimal z ≡ numeral z
+pub numeral_same : (z : ℤ) → mag z < 2 ^ 63 → signed_decimal z ≡ numeral z
 unfolding numeral
 numeral_same (pos n) h = decimal_same n (omega arith)
 numeral_same (negsuc n) h = ap (λ ds. hyphen ∷ ds) (decimal_same (suc n) (omega arith))
-
--- of a number as it is held
-pub numeral_held : (x : ℤ) (ds : List ℕ) → mag x < 2 ^ hbits w64 → ds ≡ signed_decimal (to_z w64 (of_z w64 x)) → ds ≡ numeral x
-numeral_held x ds h e = (rw (to_z-of_z {w = w64} {z = x} (record { sfits = h })) at e) ∙ numeral_same x h
 
 -- ---- the number of a word
 

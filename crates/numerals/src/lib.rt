@@ -2,29 +2,45 @@
 
 // Whole numbers as words of text: written in decimal, and read. `itoa` prints them, since std's `write!` promises its bytes
 // only where it answers `Ok`, and not that it does.
-ghost use Rattle.std.specs.Prelude.{◌≡◌, ◌++◌, ◌+◌, ◌≤◌, ◌<◌, ◌^◌, length, take};
+ghost use Rattle.std.specs.Prelude.{◌≡◌, ◌++◌, ◌+◌, ◌≤◌, ◌<◌, ◌^◌, ℤ, pos, length, take};
 ghost use Rattle.arrayvec.specs.ArrayString.{array_string_len};
-ghost use Rattle.numerals.specs.Numerals.{decimal, numeral, digit_of, size_of, most_digits, value_of};
+ghost use Rattle.numerals.specs.Numerals.{numeral, digit_of, size_of, most_digits, value_of};
 
 use arrayvec::ArrayString;
-use itoa::Buffer;
+use itoa::{Buffer, Integer};
 
 // The most digits that a number has when it is read.
 const DIGITS: usize = 18;
 
-// Writes a size behind what stands in a text.
-pub fn put_size<const N: usize>(text: &mut ArrayString<N>, n: u64)
-    requires { array_string_len text.old + length (decimal n) ≤ N }
-    ensures { text.new.bytes ≡ text.old.bytes ++ decimal n }
-{
-    text.push_str(Buffer::new().format(n));
+// A type of integer whose numbers are written.
+pub trait Number: Integer {
+    ghost value: { Self → ℤ };
+
+    // It runs nothing, and promises that itoa prints the number's numeral.
+    fn spelled(self)
+        ensures { Self.text self ≡ numeral (value self) };
 }
 
-// Writes a number there, with a minus in front of one below 0.
-pub fn put_number<const N: usize>(text: &mut ArrayString<N>, x: i64)
-    requires { array_string_len text.old + length (numeral x) ≤ N }
-    ensures { text.new.bytes ≡ text.old.bytes ++ numeral x }
+impl Number for u64 {
+    ghost value = { pos };
+
+    #[inline(always)]
+    fn spelled(self) {}
+}
+
+impl Number for i64 {
+    ghost value = { λ x. x };
+
+    #[inline(always)]
+    fn spelled(self) {}
+}
+
+// Writes a number behind what stands in a text, with a minus in front of one below 0.
+pub fn put_number<const N: usize, I: Number>(text: &mut ArrayString<N>, x: I)
+    requires { array_string_len text.old + length (numeral (I.value x)) ≤ N }
+    ensures { text.new.bytes ≡ text.old.bytes ++ numeral (I.value x) }
 {
+    x.spelled();
     text.push_str(Buffer::new().format(x));
 }
 

@@ -3,7 +3,7 @@ use Rattle.std.specs.Prelude.{◌≡◌, cond, ℕ, eqb, List, ◌++◌, codes, 
 use Rattle.std.specs.Fmt.{decimal}
 use Rattle.paper.specs.declared.Kind.{Kind}
 use Rattle.paper.specs.declared.Kind.TheVariants as kind
-use Rattle.paper.specs.declared.UnknownKind.{UnknownKind}
+use Rattle.paper.specs.declared.Unknown.{Unknown}
 use Rattle.paper.specs.declared.Refusal.{Refusal}
 use Rattle.paper.specs.declared.Refusal.TheVariants as refusal
 
@@ -16,7 +16,7 @@ code_of kind.Paired = 4
 code_of kind.Seat = 5
 
 -- the kind of a byte, or that no kind has it
-abbrev pub Decodes : ℕ → Result Kind UnknownKind → Type 0
+abbrev pub Decodes : ℕ → Result Kind Unknown → Type 0
 Decodes n r = MatchResult r (λ k. code_of k ≡ n) (λ e. (e.0 ≡ n) × ((k : Kind) → code_of k ≡ n → ⊥))
 
 -- "Numbers of refusal": a refusal's

@@ -4,9 +4,10 @@
 // What the papers say of them is in specs/, a file for each heading of paper 01.
 ghost use Rattle.std.specs.Prelude.{◌≡◌};
 ghost use Rattle.paper.specs.declared.Entry.TheVariants as entry;
-ghost use Rattle.paper.specs.Units.{is_arm};
-ghost use Rattle.paper.specs.Numbers.{number_of, code_of, Decodes};
-ghost use Rattle.paper.specs.File.{kind_of};
+ghost use Rattle.paper.specs.Numbers.{number_of, number_in, Decodes};
+
+pub mod arm;
+pub mod weight;
 
 use std::fmt;
 
@@ -15,53 +16,6 @@ pub const CAPACITY: usize = 64;
 
 // How many rows a placard may have.
 pub const MOST_ROWS: u64 = 256;
-
-// Whole grams.
-#[derive(Clone, Copy)]
-pub struct Weight {
-    pub grams: u64,
-}
-
-impl Weight {
-    pub const MOST: u64 = 2_000_000;
-
-    // Either way with a sign: what a change may add or take out, and the most that it may leave.
-    pub const SIGNED_LEAST: i64 = -Weight::SIGNED_MOST;
-
-    pub const SIGNED_MOST: i64 = Weight::MOST as i64;
-
-    // The most that a seat's load and its step may be.
-    pub const SEAT: u64 = 500_000;
-
-    // A balance is in half grams: so many to a gram.
-    pub const HALVES: u64 = 2;
-
-    // A gram, and the most that a change may leave, in half grams.
-    pub const HALVES_LEAST: i64 = Weight::HALVES as i64;
-
-    pub const HALVES_MOST: i64 = Weight::HALVES_LEAST * Weight::SIGNED_MOST;
-}
-
-// Whole hundredths of a millimetre, positive aft of the datum.
-#[derive(Clone, Copy)]
-pub struct Arm {
-    pub hundredths: i64,
-}
-
-impl Arm {
-    pub const LEAST: i64 = -Arm::MOST;
-
-    pub const MOST: i64 = 2_000_000;
-
-    // A distance has no sign.
-    pub const DISTANCE_MOST: u64 = Arm::MOST as u64;
-
-    pub fn holds(hundredths: i64) -> bool
-        ensures { result ≡ is_arm hundredths }
-    {
-        Arm::LEAST <= hundredths && hundredths <= Arm::MOST
-    }
-}
 
 // A weighing: method m, readings p and q, distances a and b, non-lifting weight n, by the paper's letters.
 #[derive(Clone, Copy)]
@@ -133,21 +87,6 @@ pub enum Entry {
     Seat(Seat),
 }
 
-impl Entry {
-    // Its kind.
-    pub fn kind(self) -> Kind
-        ensures { code_of result ≡ kind_of self }
-    {
-        match self {
-            Entry::Weighing(_) => Kind::Weighing,
-            Entry::Sheet(_) => Kind::Sheet,
-            Entry::Change(_) => Kind::Change,
-            Entry::Paired(_) => Kind::Paired,
-            Entry::Seat(_) => Kind::Seat,
-        }
-    }
-}
-
 impl From<Weighing> for Entry {
     ghost from_gives = { λ w e. e ≡ entry.Weighing w };
 
@@ -189,7 +128,7 @@ impl From<Seat> for Entry {
 }
 
 // The kinds of entry, by the numbers that they have in the file.
-#[derive(Clone, Copy, PartialEq, Eq, PartialOrd, Ord)]
+#[derive(Clone, Copy, PartialEq, Eq)]
 pub enum Kind {
     Weighing = 1,
     Sheet = 2,
@@ -198,23 +137,23 @@ pub enum Kind {
     Seat = 5,
 }
 
-// A number that no kind has.
-#[derive(Clone, Copy, PartialEq, Eq)]
-pub struct UnknownKind(pub u8);
+// A number that stands for nothing: no kind of entry has it, or no version of the file.
+#[derive(Clone, Copy)]
+pub struct Unknown(pub u8);
 
 impl TryFrom<u8> for Kind {
-    type Error = UnknownKind;
+    type Error = Unknown;
 
     ghost try_from_gives = { Decodes };
 
-    fn try_from(code: u8) -> Result<Self, UnknownKind> {
+    fn try_from(code: u8) -> Result<Self, Unknown> {
         match code {
             1 => Ok(Kind::Weighing),
             2 => Ok(Kind::Sheet),
             3 => Ok(Kind::Change),
             4 => Ok(Kind::Paired),
             5 => Ok(Kind::Seat),
-            _ => Err(UnknownKind(code)),
+            _ => Err(Unknown(code)),
         }
     }
 }
@@ -255,6 +194,16 @@ impl fmt::Display for Refusal {
     }
 }
 
+// The number of an answer, 0 where the call is accepted.
+pub fn number<A>(answer: &Result<A, Refusal>) -> u64
+    ensures { result ≡ number_in answer.now }
+{
+    match answer {
+        Ok(_) => 0,
+        Err(refusal) => u64::from(*refusal),
+    }
+}
+
 // A row of the placard: the smallest and the largest front load, or blank.
 pub type Row = Option<(u64, u64)>;
 
@@ -267,7 +216,7 @@ pub struct CentreOfGravity {
 }
 
 // What the placard call answers beside the buffer.
-#[derive(Clone, Copy)]
+#[derive(Clone, Copy, Default)]
 pub struct Placard {
     pub bytes: usize,
     pub rows: usize,

@@ -15,7 +15,5 @@ use script::calls::run;
 use std::io;
 
 fn main(rt: HostRuntime) -> io::Result<()> {
-    run(&mut rt.reader(), |log, head, last| {
-        report::tried(&rt, log, head, last)
-    })
+    run(&mut rt.reader(), |case| report::tried(&rt, &case))
 }

@@ -1,12 +1,22 @@
--- What the reader gives: entries of the kinds that a version has.
+-- What a reader has still to read, and what it gives: entries of the kinds that a version has.
 use Rattle.std.specs.Prelude.{◌≡◌, cond, List, ℕ, leb}
 use Rattle.std.specs.Prelude.{Option as RustOption}
+use Rattle.std.specs.Borrow.{Bor}
 use Rattle.std.proofs.Math.Option.{Option, none, some}
 use Rattle.paper.specs.declared.Entry.{Entry}
+use Rattle.paper.specs.declared.Kind.{Kind}
 use Rattle.paper.specs.Numbers.{code_of}
 use Rattle.paper.specs.File.{kind_of, take_entry}
 use Rattle.entries.specs.Taking.{Takes}
 use Rattle.reader.specs.declared.Reader.{Reader}
+
+-- the bytes that are still to be read, as they are lent
+abbrev pub unread : Reader → Bor (List ℕ)
+unread r = r.rest
+
+-- the last kind of entry that the version of their file has
+abbrev pub last_of : Reader → Kind
+last_of r = r.kinds
 
 -- an entry that was taken is one of a kind up to k, else none is
 abbrev pub up_to : ℕ → Option (Entry × List ℕ) → Option (Entry × List ℕ)
@@ -18,4 +28,4 @@ take_to k xs = up_to k (take_entry xs)
 
 -- the entry that the bytes begin with, behind which the reader then stands, or none
 abbrev pub GivesEntry : Reader → RustOption Entry → Reader → Type 0
-GivesEntry s x t = Takes (take_to (code_of s.kinds) s.rest.now) x t.rest.now × (t.kinds ≡ s.kinds)
+GivesEntry s x t = Takes (take_to (code_of (last_of s)) (unread s).now) x (unread t).now × (last_of t ≡ last_of s)

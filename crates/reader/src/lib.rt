@@ -2,6 +2,7 @@
 
 // The reader that walks the entries of a stored file: a struct over the bytes that are still to be read.
 ghost use Rattle.std.specs.Prelude.{◌≡◌, length};
+ghost use Rattle.reader.specs.Reading.{unread, last_of};
 
 use paper::{Entry, Kind};
 
@@ -15,14 +16,14 @@ pub struct Reader<'a> {
 impl<'a> Reader<'a> {
     // Over some bytes, at the first of them.
     pub fn new(rest: &'a [u8], kinds: Kind) -> Reader<'a>
-        ensures { (result.rest ≡ rest.entry) × (result.kinds ≡ kinds) }
+        ensures { (unread result ≡ rest.entry) × (last_of result ≡ kinds) }
     {
         Reader { rest, kinds }
     }
 
     // How many bytes are still to be read.
     pub fn left(&self) -> usize
-        ensures { result ≡ length self.now.rest.now }
+        ensures { result ≡ length (unread self.now).now }
     {
         self.rest.len()
     }

@@ -8,17 +8,17 @@ ghost use Rattle.paper.specs.Refusals.{bad_reading, bad_distance, bad_part};
 ghost use Rattle.reading.specs.Readings.{two_products, Says, InGrams};
 
 use laws::Sides;
-use paper::{Arm, Weighing, Weight};
+use paper::{Weighing, arm, weight};
 
 // Number 1's condition. In methods 1 and 2 q is a part of p, in 3 they add up, in 4 q is taken from p.
 pub fn bad_reading(w: Weighing) -> bool
     ensures { result ≡ bad_reading w }
 {
-    Weight::MOST < w.p
-        || Weight::MOST < w.q
+    weight::MOST < w.p
+        || weight::MOST < w.q
         || match w.m {
             1 | 2 => w.p < w.q || w.p < 1,
-            3 => w.p + w.q < 1 || Weight::MOST < w.p + w.q,
+            3 => w.p + w.q < 1 || weight::MOST < w.p + w.q,
             4 => w.p <= w.q,
             _ => true,
         }
@@ -28,7 +28,7 @@ pub fn bad_reading(w: Weighing) -> bool
 pub fn bad_distance(w: Weighing) -> bool
     ensures { result ≡ bad_distance w }
 {
-    !(Arm::holds(w.a) && 1 <= w.b && w.b <= Arm::DISTANCE_MOST)
+    !(arm::holds(w.a) && 1 <= w.b && w.b <= arm::DISTANCE_MOST)
 }
 
 // G, in grams. It asks for the methods in turn, as `moment` does, so that both are known by one test of each.

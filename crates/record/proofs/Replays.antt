@@ -11,12 +11,12 @@ use Rattle.paper.specs.declared.Entry.{Entry}
 use Rattle.paper.specs.Refusals.{entry_number, accepted_after, accepted}
 use Rattle.judge.specs.declared.Standing.{Standing}
 use Rattle.judge.specs.Standing.{Stands, stands_in, plainly, judged, kept_behind}
-use Rattle.judge.proofs.Following.{judged_at}
+use Rattle.judge.proofs.Following.{kept_added, kept_same, judged_at}
 use Rattle.record.specs.declared.Record.{Record}
 use Rattle.record.specs.declared.Replayed.{Replayed}
 use Rattle.record.specs.Held.{record_of, replayed, slotted, held_by, put, ReplayedAs}
 use Rattle.judge.proofs.Accepted.{at_most_64, room_for}
-use Rattle.record.proofs.Turns.{kept_added, kept_same, replayed-more, accepted-replayed}
+use Rattle.record.proofs.Turns.{replayed-more, accepted-replayed}
 use Rattle.record.proofs.Lists.{put_is}
 
 -- ---- the slots in turn

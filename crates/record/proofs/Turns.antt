@@ -2,28 +2,15 @@
 use mathlib.Core.Path.{◌≡◌, refl, sym}
 use mathlib.Core.Bool.{Bool, true, false, cond}
 use mathlib.Core.List.{List, [], ◌∷◌, ◌++◌, append_assoc, append-nil}
-use Prim.Native.Nat.{◌<◌}
-use native.Mathlib.Omega.{arith}
 use lib.Dec.{eqb}
-use borrow.Author.Tests.{eq-eqb, ne_eqb, eqb-true}
+use borrow.Author.Tests.{eqb-true}
 use Rattle.laws.specs.Tests.{left, right}
 use Rattle.paper.specs.declared.Entry.{Entry}
 use Rattle.paper.specs.Refusals.{entry_number, accepted_after, accepted}
-use Rattle.judge.proofs.Accepted.{accepted-more}
 use Rattle.judge.specs.Standing.{kept_behind}
+use Rattle.judge.proofs.Following.{kept_added}
+use Rattle.judge.proofs.Accepted.{accepted-more}
 use Rattle.record.specs.Held.{replayed}
-
--- ---- one entry
-
-pub kept_added : (es : List Entry) (e : Entry) → entry_number es e ≡ 0 → kept_behind es e ≡ es ++ e ∷ []
-unfolding kept_behind
-kept_added es e n = rw (eq-eqb (entry_number es e) 0 n)
-
-pub kept_same : (es : List Entry) (e : Entry) → 0 < entry_number es e → kept_behind es e ≡ es
-unfolding kept_behind
-kept_same es e n = rw (ne_eqb (entry_number es e) 0 (λ z. omega arith))
-
--- ---- replays
 
 pub replayed-more : (es fs : List Entry) (f : Entry) → replayed es (fs ++ f ∷ []) ≡ kept_behind (replayed es fs) f
 unfolding replayed

@@ -1,7 +1,7 @@
 // The record's calls by letters.
 use crate::reread::{G, first_version, read_again};
 use crate::sample::Fields;
-use crate::texts::{parted, text};
+use crate::texts::{lettered, parted, text};
 use lines::read_full;
 use paper::Refusal;
 use record::Record;
@@ -38,63 +38,67 @@ fn afresh(log: &mut Record) -> Result<(), Refusal> {
     Ok(())
 }
 
-// A call: its letter, and the fields that stand behind it.
-fn called(log: &mut Record, call: &str) -> io::Result<Result<(), Refusal>> {
-    let (letter, other) = call.split_at_checked(1).ok_or(io::ErrorKind::InvalidData)?;
+// A call: its letter, and the fields that stand behind it. Any other letter makes a fresh record, as = does.
+fn called(log: &mut Record, call: &str) -> Result<(), Refusal> {
+    let (letter, other) = lettered(call);
     let by = |ordinary| Fields { ordinary, other };
-    Ok(match letter {
-        "w" => log.weigh(by(WEIGHING).weighing()?),
-        "v" => log.weigh(by(HANGING).weighing()?),
-        "u" => log.weigh(by(LIGHT).weighing()?),
-        "p" => log.weigh_paired(by(PAIRED).paired()?),
-        "s" => log.install(by(SHEET).sheet()?),
-        "l" => log.install(by(LAX_SHEET).sheet()?),
-        "c" => log.change(by(CHANGE).change()?),
-        "a" => log.adjust_seat(by(SEAT).seat()?),
+    match letter {
+        "w" => log.weigh(by(WEIGHING).weighing()),
+        "v" => log.weigh(by(HANGING).weighing()),
+        "u" => log.weigh(by(LIGHT).weighing()),
+        "p" => log.weigh_paired(by(PAIRED).paired()),
+        "s" => log.install(by(SHEET).sheet()),
+        "l" => log.install(by(LAX_SHEET).sheet()),
+        "c" => log.change(by(CHANGE).change()),
+        "a" => log.adjust_seat(by(SEAT).seat()),
         "r" => read_again(log),
         "g" => file::read(log, &G),
         "x" => file::read(log, &G[..88]),
         "o" => file::read(log, &first_version()),
         "-" => log.undo(),
-        "=" => afresh(log),
-        _ => return Err(io::ErrorKind::InvalidData.into()),
-    })
+        _ => afresh(log),
+    }
 }
 
 // Calls one after the other, with a comma between two. The answer is the last one's.
-fn played(log: &mut Record, calls: &str) -> io::Result<Result<(), Refusal>> {
+pub fn played(log: &mut Record, calls: &str) -> Result<(), Refusal> {
     let mut last = Ok(());
     for call in calls.split_terminator(',') {
-        last = called(log, call)?;
+        last = called(log, call);
     }
-    Ok(last)
+    last
+}
+
+// A case: what stands in front of its calls, the record that they leave, and what the last of them answers.
+#[derive(Drop)]
+pub struct Case<'a> {
+    pub head: &'a str,
+    pub log: &'a mut Record,
+    pub last: Result<(), Refusal>,
 }
 
 // The cases of a text in turn, a line for each: a head, a colon, a space, and calls that go on from the record that the line
-// before left, a fresh one at first. Handed on are that record, the head, and what the last call answers. Empty lines and those
-// that begin with # are no cases.
-pub fn each_case<F: FnMut(&mut Record, &str, Result<(), Refusal>) -> io::Result<()>>(
-    s: &[u8],
-    mut act: F,
-) -> io::Result<()>
+// before left, a fresh one at first. Empty lines and those that begin with # are no cases.
+pub fn each_case<F: FnMut(Case<'_>) -> io::Result<()>>(s: &[u8], mut act: F) -> io::Result<()>
     requires { F.IsAlwaysCallable act }
 {
     let mut log = Record::fresh();
     for line in text(s)?.lines() {
         if !line.is_empty() && !line.starts_with('#') {
-            let (head, calls) = parted(line, ':')?;
-            let last = played(&mut log, calls.trim_start())?;
-            act(&mut log, head, last)?;
+            let (head, calls) = parted(line, ':');
+            let last = played(&mut log, calls.trim_start());
+            act(Case {
+                head,
+                log: &mut log,
+                last,
+            })?;
         }
     }
     Ok(())
 }
 
 // The cases of a whole input in turn.
-pub fn run<R: Read, F: FnMut(&mut Record, &str, Result<(), Refusal>) -> io::Result<()>>(
-    from: &mut R,
-    act: F,
-) -> io::Result<()>
+pub fn run<R: Read, F: FnMut(Case<'_>) -> io::Result<()>>(from: &mut R, act: F) -> io::Result<()>
     requires { F.IsAlwaysCallable act }
 {
     let mut room = [0u8; CASES];

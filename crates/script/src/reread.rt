@@ -1,5 +1,5 @@
 // Files that are read.
-use header::Version;
+use header::{Header, Version};
 use lines::written;
 use paper::Refusal;
 use record::Record;
@@ -22,6 +22,6 @@ pub fn read_again(log: &mut Record) -> Result<(), Refusal> {
 // G's file in version 1.
 pub fn first_version() -> [u8; 89] {
     let mut s = G;
-    s[4] = Version::First as u8;
+    s[Header::VERSION] = Version::First as u8;
     s
 }

@@ -1,10 +1,12 @@
-// What stands in a text: its parts, numbers, bytes as digits of sixteen. Where something else stands there, an error says so.
-ghost use Rattle.std.specs.Prelude.{◌≡◌, ◌∷◌, ◌++◌, ◌<◌, Ok, IfOk};
-ghost use Rattle.hex.specs.Hex.{decode_of};
+// What stands in a text: its parts, its numbers, bytes as digits of sixteen.
+ghost use Rattle.std.specs.Prelude.{◌≡◌, ◌⊎◌, ◌∷◌, ◌++◌, ◌/◌, ◌<◌, ◌≤◌, [], length, IfOk, min};
+ghost use Rattle.script.specs.Digits.{digits_from, sixteen, Spells};
 
 use lines::lent;
 use std::io;
-use std::str::FromStr;
+
+// The most bytes that digits of sixteen spell in a case.
+pub const SPELLED: usize = 4096;
 
 // The text that bytes are.
 pub fn text(s: &[u8]) -> io::Result<&str>
@@ -13,37 +15,61 @@ pub fn text(s: &[u8]) -> io::Result<&str>
     str::from_utf8(s).map_err(|_| io::ErrorKind::InvalidData.into())
 }
 
-// What stands before the first such character, and what behind it.
-pub fn parted(text: &str, by: char) -> io::Result<(&str, &str)>
-    ensures { IfOk result (λ parts. by < 128 → text.now ≡ parts.0.now ++ by ∷ parts.1.now) }
+// What stands before the first such character and what behind it; all and nothing where there is none.
+pub fn parted(text: &str, by: char) -> (&str, &str)
+    ensures { by < 128 → (text.now ≡ result.0.now ++ by ∷ result.1.now) ⊎ ((result.0.now ≡ text.now) × (result.1.now ≡ [])) }
 {
-    text.split_once(by).ok_or(io::ErrorKind::InvalidData.into())
+    text.split_once(by).unwrap_or((text, ""))
 }
 
-// The number that a text is.
-pub fn parsed<N: FromStr>(text: &str) -> io::Result<N>
-where
-    N::Err: Drop,
-    ensures { IfOk result (λ n. N.from_str_gives text.now (Ok n)) }
+// The letter that a text begins with and what stands behind it; nothing and all where it begins with none.
+pub fn lettered(text: &str) -> (&str, &str)
+    ensures whole { result.0.now ++ result.1.now ≡ text.now }
+    ensures letter { length result.0.now ≤ 1 }
 {
-    text.parse().map_err(|_| io::ErrorKind::InvalidData.into())
+    text.split_at_checked(1).unwrap_or(("", text))
 }
 
-// The number of a field. One below 0 is counted from 2^64; < is the least that has a sign, > the greatest.
-pub fn number(text: &str) -> io::Result<u64> {
-    match text {
-        "<" => Ok(i64::MIN.cast_unsigned()),
-        ">" => Ok(i64::MAX.cast_unsigned()),
-        _ if text.starts_with('-') => Ok(parsed::<i64>(text)?.cast_unsigned()),
-        _ => parsed(text),
+// The number of the digits that a text begins with. It keeps ten.
+pub fn digits(s: &[u8]) -> u64
+    ensures { result ≡ digits_from 0 s.now }
+{
+    let mut n = 0;
+    for x in s {
+        if !x.is_ascii_digit() {
+            break;
+        }
+        n = n % 1_000_000_000 * 10 + u64::from(x - b'0');
+    }
+    n
+}
+
+// The number that a text begins with. One below 0 is counted from 2^64; < is the least that has a sign, > the greatest.
+pub fn number(s: &[u8]) -> u64 {
+    match s {
+        [b'<', ..] => i64::MIN.cast_unsigned(),
+        [b'>', ..] => i64::MAX.cast_unsigned(),
+        [b'-', size @ ..] => digits(size).wrapping_neg(),
+        _ => digits(s),
     }
 }
 
-// The bytes that digits of sixteen spell, two for each, at the front of a buffer.
-pub fn decoded<'a>(digits: &str, out: &'a mut [u8]) -> io::Result<&'a mut [u8]>
-    ensures { IfOk result (λ s. decode_of digits.now ≡ Ok s.now) }
+// A digit of sixteen. What is none has some value too.
+fn digit(x: u8) -> u8
+    ensures bound { result < 16 }
+    ensures value { result ≡ sixteen x }
+{
+    if x < b'a' { x % 16 } else { (x % 16 + 9) % 16 }
+}
+
+// The bytes that digits of sixteen spell, two for each, at the front of a buffer, as many as it has room for.
+pub fn spelled<'a>(digits: &[u8], out: &'a mut [u8]) -> &'a mut [u8]
+    ensures len { length result.now ≡ min (length digits.now / 2) (length out.old) }
+    ensures bytes { Spells digits.now result.now }
 {
     let bytes = lent(out, digits.len() / 2);
-    hex::decode_to_slice(digits, bytes).map_err(|_| io::ErrorKind::InvalidData)?;
-    Ok(bytes)
+    for (i, x) in bytes.iter_mut().enumerate() {
+        *x = digit(digits[2 * i]) * 16 + digit(digits[2 * i + 1]);
+    }
+    bytes
 }

@@ -5,13 +5,13 @@ ghost use Rattle.std.specs.Prelude.{◌≡◌, false, [], ◌∷◌, IfOk};
 ghost use Rattle.paper.specs.Numbers.{number_in};
 ghost use Rattle.paper.specs.Refusals.{first_number, ◌when◌, sheet_faults, bad_ends};
 
-use paper::{Arm, Refusal, Seat, Sheet};
+use paper::{Refusal, Seat, Sheet, arm};
 
 // Number 2's condition.
 pub fn bad_ends(f: Seat) -> bool
     ensures { result ≡ bad_ends f }
 {
-    !(Arm::holds(f.lower) && Arm::holds(f.higher) && f.lower <= f.higher)
+    !(arm::holds(f.lower) && arm::holds(f.higher) && f.lower <= f.higher)
 }
 
 // A sheet in force, with the ends that its front arm lies between. Both were accepted.

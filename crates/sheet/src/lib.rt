@@ -6,17 +6,17 @@ ghost use Rattle.paper.specs.Numbers.{number_in};
 ghost use Rattle.paper.specs.Rows.{row_count};
 ghost use Rattle.paper.specs.Refusals.{first_number, bad_arms, bad_ranges, is_step_to, bad_rows, sheet_faults};
 
-use paper::{Arm, MOST_ROWS, Refusal, Sheet, Station, Weight};
+use paper::{MOST_ROWS, Refusal, Sheet, Station, arm, weight};
 
 // Number 2's condition.
 fn bad_arms(s: Sheet) -> bool
     ensures { result ≡ bad_arms s }
 {
-    !(Arm::holds(s.fwd)
-        && Arm::holds(s.aft)
-        && Arm::holds(s.front.arm)
-        && Arm::holds(s.rear.arm)
-        && Arm::holds(s.water.arm))
+    !(arm::holds(s.fwd)
+        && arm::holds(s.aft)
+        && arm::holds(s.front.arm)
+        && arm::holds(s.rear.arm)
+        && arm::holds(s.water.arm))
 }
 
 // Number 4's condition. DRY is a weight where WET is one.
@@ -26,12 +26,12 @@ fn bad_ranges(s: Sheet) -> bool
     !(s.fwd < s.aft
         && 1 <= s.dry
         && s.dry <= s.wet
-        && s.wet <= Weight::MOST
-        && s.nlp <= Weight::MOST
+        && s.wet <= weight::MOST
+        && s.nlp <= weight::MOST
         && s.least <= s.front.most
-        && s.front.most <= Weight::SEAT
-        && s.rear.most <= Weight::SEAT
-        && s.water.most <= Weight::MOST)
+        && s.front.most <= weight::SEAT
+        && s.rear.most <= weight::SEAT
+        && s.water.most <= weight::MOST)
 }
 
 // Whether a station's step is 1 .. most.
@@ -62,9 +62,9 @@ fn bad_rows(s: Sheet) -> bool
     requires { bad_ranges s ≡ false }
     ensures { result ≡ bad_rows s }
 {
-    !(step_holds(s.front, Weight::SEAT)
-        && step_holds(s.rear, Weight::SEAT)
-        && step_holds(s.water, Weight::MOST)
+    !(step_holds(s.front, weight::SEAT)
+        && step_holds(s.rear, weight::SEAT)
+        && step_holds(s.water, weight::MOST)
         && rows(&s) <= MOST_ROWS)
 }
 

@@ -27,6 +27,7 @@ use Rattle.header.proofs.Judging.{too_few, enough_bytes}
 use Rattle.header.specs.Versions as versions
 use Rattle.judge.specs.Standing.{Stands, stands_in}
 use Rattle.reader.specs.declared.Reader.{Reader}
+use Rattle.reader.specs.Reading.{unread, last_of}
 use Rattle.stored.specs.Walks.{WalkedTo}
 use Rattle.stored.proofs.Reading.{none_passed}
 
@@ -95,16 +96,16 @@ module _ (xs : List ℕ) where
     good_header e = ap only_accepted (rw e at (by_header b))
 
 -- a walk begins behind a right header
-pub begun : (xs : List ℕ) (header : Header) (rest : Bor (List ℕ)) (reader : Reader) (o : Stands) → are_bytes xs ≡ true → TakesHeader xs (Some (header, rest)) → reader.rest ≡ rest → code_of reader.kinds ≡ last_kind (versions.number_of header.version) → o ≡ stands_in [] → WalkedTo xs [] header.count (code_of reader.kinds) reader.rest.now o
+pub begun : (xs : List ℕ) (header : Header) (rest : Bor (List ℕ)) (reader : Reader) (o : Stands) → are_bytes xs ≡ true → TakesHeader xs (Some (header, rest)) → unread reader ≡ rest → code_of (last_of reader) ≡ last_kind (versions.number_of header.version) → o ≡ stands_in [] → WalkedTo xs [] header.count (code_of (last_of reader)) (unread reader).now o
 unfolding accepted accepted_after kinds_to joined
 begun xs header rest reader o b h r v s =
-    let k : code_of reader.kinds ≡ last_kind (get_or xs 4 0) = v ∙ ap last_kind h.1 in
-    let ys : reader.rest.now ≡ drop 6 xs = ap (λ (t : Bor (List ℕ)). t.now) r ∙ h.3 in
+    let k : code_of (last_of reader) ≡ last_kind (get_or xs 4 0) = v ∙ ap last_kind h.1 in
+    let ys : (unread reader).now ≡ drop 6 xs = ap (λ (t : Bor (List ℕ)). t.now) r ∙ h.3 in
     record {
       stands = s;
       fine = refl;
       kinds = refl;
-      list = good_header xs b h.0 ∙ rw (← k, ← h.2, ← ys) (none_passed (code_of reader.kinds) header.count reader.rest.now);
+      list = good_header xs b h.0 ∙ rw (← k, ← h.2, ← ys) (none_passed (code_of (last_of reader)) header.count (unread reader).now);
       bytes = rw ys (bytes_drop 6 xs b);
       place = omega (arith, length-drop 6 xs, enough_bytes xs h.0, ap length ys);
     }

@@ -11,6 +11,7 @@ use Rattle.paper.specs.Refusals.{accepted, only_accepted, file_of}
 use Rattle.judge.specs.declared.Standing.{Standing}
 use Rattle.judge.specs.Standing.{Stands, stands_in, plainly}
 use Rattle.reader.specs.declared.Reader.{Reader}
+use Rattle.reader.specs.Reading.{unread, last_of}
 use Rattle.stored.specs.Found.{bytes_in}
 
 -- the list that a file of the version that has the kinds up to k comes to, where es are passed and n are to come, which ys are
@@ -27,7 +28,7 @@ pub record WalkedTo (xs : List ℕ) (es : List Entry) (n k : ℕ) (ys : List ℕ
   pub place : 6 + length (bytes_in es) + length ys ≡ length xs
 
 abbrev pub Walked : List ℕ → List Entry → ℕ → Reader → Standing → Type 0
-Walked xs es n r t = WalkedTo xs es n (code_of r.kinds) r.rest.now (plainly t)
+Walked xs es n r t = WalkedTo xs es n (code_of (last_of r)) (unread r).now (plainly t)
 
 -- behind one entry more, or xs are no file
 abbrev pub Goes : List ℕ → List Entry → ℕ → RustOption Entry → Reader → Standing → Type 0

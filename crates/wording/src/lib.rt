@@ -1,7 +1,7 @@
 #![tactic(auto)]
 
 // The text of an entry, as a line of the logbook has it.
-ghost use Rattle.std.specs.Prelude.{◌≡◌, ◌++◌, map, ◌+◌, ◌≤◌, pos, length};
+ghost use Rattle.std.specs.Prelude.{◌≡◌, ◌++◌, ◌+◌, ◌≤◌, length};
 ghost use Rattle.arrayvec.specs.ArrayString.{array_string_len};
 ghost use Rattle.paper.specs.declared.Entry.{Entry};
 ghost use Rattle.paper.specs.declared.Entry.TheVariants as entry;
@@ -9,6 +9,7 @@ ghost use Rattle.paper.specs.File.{values_of};
 ghost use Rattle.wording.specs.Texts.{spaced, values_text, entry_text};
 
 use arrayvec::ArrayString;
+use numerals::Number;
 use paper::{Change, Entry, Paired, Seat, Sheet, Weighing};
 
 // What stands before each value.
@@ -30,35 +31,25 @@ trait Worded {
 }
 
 // Writes a number behind what stands in a text, and a space before it.
-fn put_number(text: &mut Text, x: i64)
+fn put_number<I: Number>(text: &mut Text, x: I)
     requires { array_string_len text.old + 22 ≤ 338 }
-    ensures behind { text.new.bytes ≡ text.old.bytes ++ spaced x }
+    ensures behind { text.new.bytes ≡ text.old.bytes ++ spaced (I.value x) }
     ensures few { array_string_len text.new ≤ array_string_len text.old + 22 }
 {
     text.push(SPACE);
     numerals::put_number(text, x);
 }
 
-// The same of one that has no sign.
-fn put_size(text: &mut Text, n: u64)
-    requires { array_string_len text.old + 22 ≤ 338 }
-    ensures behind { text.new.bytes ≡ text.old.bytes ++ spaced (pos n) }
-    ensures few { array_string_len text.new ≤ array_string_len text.old + 22 }
-{
-    text.push(SPACE);
-    numerals::put_size(text, n);
-}
-
 impl Worded for Weighing {
     ghost entry = { λ x. entry.Weighing x };
 
     fn put_values(self, text: &mut Text) {
-        put_size(text, self.m);
-        put_size(text, self.p);
-        put_size(text, self.q);
+        put_number(text, self.m);
+        put_number(text, self.p);
+        put_number(text, self.q);
         put_number(text, self.a);
-        put_size(text, self.b);
-        put_size(text, self.n);
+        put_number(text, self.b);
+        put_number(text, self.n);
     }
 }
 
@@ -68,19 +59,19 @@ impl Worded for Sheet {
     fn put_values(self, text: &mut Text) {
         put_number(text, self.fwd);
         put_number(text, self.aft);
-        put_size(text, self.dry);
-        put_size(text, self.wet);
-        put_size(text, self.nlp);
+        put_number(text, self.dry);
+        put_number(text, self.wet);
+        put_number(text, self.nlp);
         put_number(text, self.front.arm);
-        put_size(text, self.least);
-        put_size(text, self.front.most);
-        put_size(text, self.front.step);
+        put_number(text, self.least);
+        put_number(text, self.front.most);
+        put_number(text, self.front.step);
         put_number(text, self.rear.arm);
-        put_size(text, self.rear.most);
-        put_size(text, self.rear.step);
+        put_number(text, self.rear.most);
+        put_number(text, self.rear.step);
         put_number(text, self.water.arm);
-        put_size(text, self.water.most);
-        put_size(text, self.water.step);
+        put_number(text, self.water.most);
+        put_number(text, self.water.step);
     }
 }
 
@@ -90,7 +81,7 @@ impl Worded for Change {
     fn put_values(self, text: &mut Text) {
         put_number(text, self.c);
         put_number(text, self.arm);
-        put_size(text, self.flag);
+        put_number(text, self.flag);
     }
 }
 
@@ -98,14 +89,14 @@ impl Worded for Paired {
     ghost entry = { λ x. entry.Paired x };
 
     fn put_values(self, text: &mut Text) {
-        put_size(text, self.m);
-        put_size(text, self.p);
-        put_size(text, self.q);
-        put_size(text, self.p2);
-        put_size(text, self.q2);
+        put_number(text, self.m);
+        put_number(text, self.p);
+        put_number(text, self.q);
+        put_number(text, self.p2);
+        put_number(text, self.q2);
         put_number(text, self.a);
-        put_size(text, self.b);
-        put_size(text, self.n);
+        put_number(text, self.b);
+        put_number(text, self.n);
     }
 }
 

@@ -1,8 +1,7 @@
 #![tactic(auto)]
 
 // Numbers as the file spells them: bytes with the highest first, and two's complement in four of them.
-ghost use Rattle.std.specs.Prelude.{◌≡◌, ◌+◌, ◌≤◌, length};
-ghost use Rattle.laws.specs.Written.{written};
+ghost use Rattle.std.specs.Prelude.{◌≡◌, length};
 ghost use Rattle.paper.specs.File.{bytes_of, number_of, complement, signed_word, field_value};
 
 use std::num::wrapping_add_u32;
@@ -21,17 +20,13 @@ pub fn number_of(bytes: [u8; 4]) -> u32
     u32::from_be_bytes(bytes)
 }
 
-// The last `width` bytes of a number, from `at` on. It counts down by hand, since each byte is what division leaves of the rest:
-// a reversed range would say its place by what it yielded, which is no plainer.
-pub fn put_number(out: &mut [u8], at: usize, width: usize, n: u64)
-    requires { at + width ≤ length out.old }
-    ensures { out.new ≡ written out.old at (bytes_of width n) }
+// The last bytes of a number, as many as the slice has.
+pub fn put_number(out: &mut [u8], n: u64)
+    ensures { out.new ≡ bytes_of (length out.old) n }
 {
-    let mut left = width;
     let mut rest = n;
-    while 0 < left {
-        left -= 1;
-        out[at + left] = (rest % 256) as u8;
+    for i in (0..out.len()).rev() {
+        out[i] = (rest % 256) as u8;
         rest = rest / 256;
     }
 }
@@ -59,5 +54,5 @@ pub fn long_of(x: i64) -> u64
 pub fn signed(n: u32) -> i64
     ensures { result ≡ field_value signed_word n }
 {
-    wrapping_add_u32(n, MIDDLE) as i64 - 2_147_483_648
+    wrapping_add_u32(n, MIDDLE) as i64 - MIDDLE as i64
 }

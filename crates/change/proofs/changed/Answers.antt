@@ -13,7 +13,7 @@ use Rattle.balance.specs.declared.Balance.{Balance}
 use Rattle.balance.specs.Balance.{an_entry}
 use Rattle.change.proofs.Changes.{inside, gain, part, c_range, gain_range, part_range, total_test, part_test, arm_bad, change_bad, total_bad, part_bad, all_fine, ranged, after_is}
 use Rattle.change.proofs.Products.{sum_fits, sum_is, unsigned, small, small_fits}
-use Rattle.change.proofs.changed.Goals.{After-holds, After-half_grams-gain, After-counted, After-from}
+use Rattle.change.proofs.changed.Goals.{After-holds, After-half_grams-gain, After-counted}
 use Rattle.change.proofs.changed.Goals as goal
 
 arm_tested : (c : After-holds) → c.holds.result ≡ is_arm c.args.x.arm

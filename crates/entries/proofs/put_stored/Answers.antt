@@ -11,7 +11,7 @@ pub returns : goal.returns
 returns g c =
     let a = c.args in
     let t = g.T.Stored in
-    let xs : List ℕ = fields_bytes (fields_at t.kind) (values_of (t.entry a.x)) in (
+    let xs : List ℕ = fields_bytes (fields_at (code_of t.KIND)) (values_of (t.entry a.x)) in (
       omega (arith, c.LENGTH.ensures),
-      written-part (set a.out.now 0 _) _ xs 1 c.put.ensures ∙ ap (λ (n : ℕ). written (set a.out.now 0 n) 1 xs) (code a.kind) ∙ written_behind a.out.now 0 (code_of a.kind) xs (omega arith),
+      written-part (set a.out.now 0 _) _ xs 1 c.put.ensures ∙ ap (λ (n : ℕ). written (set a.out.now 0 n) 1 xs) (code c.KIND.result ∙ ap code_of c.KIND.ensures) ∙ written_behind a.out.now 0 (code_of t.KIND) xs (omega arith),
     )

@@ -1,15 +1,17 @@
 -- `entries::take_stored` meets its contract, by how many bytes there are. Assumes nothing.
-use Rattle.std.proofs.Common.{◌∙◌, arith}
-use Rattle.std.proofs.lemmas.List.{take_rest}
+use Rattle.std.proofs.Common.{◌∙◌}
+use Rattle.paper.specs.Numbers.{code_of}
 use Rattle.entries.proofs.Taking.{too_few, enough}
 use Rattle.entries.proofs.take_stored.Goals as goal
 
-pub returns-then-fields-LENGTH : goal.returns-then-fields-LENGTH
-returns-then-fields-LENGTH g c =
-    too_few g.T.Stored.kind c.LENGTH.result c.args.s.now.now (c.LENGTH.ensures ∙ g.met.T.Stored.sized) c.if-fields-LENGTH.true
+pub returns-in_err-fields : goal.returns-in_err-fields
+returns-in_err-fields g c =
+    let t = g.T.Stored in
+    rw c.from_residual.ensures
+    (too_few (code_of t.KIND) c.LENGTH.result c.args.s.now.now (c.LENGTH.ensures ∙ g.met.T.Stored.sized) c.in_err-fields.ensures.cases)
 
 pub returns : goal.returns
 returns g c =
-    let s = c.args.s.now.now in
-    let n = c.LENGTH-2.result in
-    enough g.T.Stored.kind n s (c.LENGTH-2.ensures ∙ g.met.T.Stored.sized) (omega (arith, c.if-fields-LENGTH.false, c.LENGTH.ensures, c.LENGTH-2.ensures)) _ _ c.entry_from.ensures (take_rest s n)
+    let t = g.T.Stored in
+    let split = c.in_ok-fields.ensures.cases in
+    enough (code_of t.KIND) c.LENGTH.result c.args.s.now.now (c.LENGTH.ensures ∙ g.met.T.Stored.sized) split.0 _ _ _ split.1 c.entry_from.ensures split.2

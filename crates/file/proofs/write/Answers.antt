@@ -27,11 +27,10 @@ returns-then-out-length c =
     let size : c.length_of-length.result ≡ length (file_bytes es) = c.length_of-length.ensures ∙ ap (λ (fs : List Entry). length (file_bytes fs)) entries in
     sym (too_short es c.args.out.now (omega (arith, size)))
 
-pub overflow_sub-length : goal.overflow_sub-length
-overflow_sub-length c = omega (arith, c.length_of-length.ensures, file_size c.entries-list.result.now)
-
 pub put_header-requires : goal.put_header-requires
-put_header-requires c = omega (arith, c.length_of-length.ensures, file_size c.entries-list.result.now)
+put_header-requires c =
+    let size = file_size c.entries-list.result.now in
+    (omega (arith, c.length_of-length.ensures, size), omega (arith, c.length_of-length.ensures, size))
 
 pub returns : goal.returns
 returns c =

@@ -13,6 +13,6 @@ returns c =
     let put : Put (fields_at 3) (values_of (entry.Change a.self)) a.out.now 0 _ =
     (then_put signed_word _ _ _ _ _ _ _ (signed_put a.self.c _ _ (search rules) c.put_signed.ensures)
     (then_put signed_word _ _ _ _ _ _ _ (signed_put a.self.arm _ _ (search rules) c.put_signed-2.ensures)
-    (then_put byte _ _ _ _ _ _ _ c.put_plain.ensures
+    (then_put byte _ _ _ _ _ _ _ c.put_number.ensures
     (none_put _ _)))) in
     all_put _ _ _ _ _ put (omega arith)

@@ -11,11 +11,11 @@ unfolding layout_of bytes_of field_bytes fields_bytes
 returns c =
     let a = c.args in
     let put : Put (fields_at 1) (values_of (entry.Weighing a.self)) a.out.now 0 _ =
-    (then_put byte _ _ _ _ _ _ _ c.put_plain.ensures
-    (then_put word _ _ _ _ _ _ _ c.put_plain-2.ensures
-    (then_put word _ _ _ _ _ _ _ c.put_plain-3.ensures
+    (then_put byte _ _ _ _ _ _ _ c.put_number.ensures
+    (then_put word _ _ _ _ _ _ _ c.put_number-2.ensures
+    (then_put word _ _ _ _ _ _ _ c.put_number-3.ensures
     (then_put signed_word _ _ _ _ _ _ _ (signed_put a.self.a _ _ (search rules) c.put_signed.ensures)
-    (then_put word _ _ _ _ _ _ _ c.put_plain-4.ensures
-    (then_put word _ _ _ _ _ _ _ c.put_plain-5.ensures
+    (then_put word _ _ _ _ _ _ _ c.put_number-4.ensures
+    (then_put word _ _ _ _ _ _ _ c.put_number-5.ensures
     (none_put _ _))))))) in
     all_put _ _ _ _ _ put (omega arith)

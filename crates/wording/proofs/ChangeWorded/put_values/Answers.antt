@@ -8,9 +8,9 @@ use Rattle.wording.proofs.ChangeWorded.put_values.Goals as goal
 pub returns : goal.returns
 returns c =
     let a = c.args in
-    let put : c.put_size.new.text.bytes ≡ put_all (values_of (entry.Change a.self)) a.text.now.bytes =
+    let put : c.put_number-3.new.text.bytes ≡ put_all (values_of (entry.Change a.self)) a.text.now.bytes =
     (then_put _ _ _ _ _ (signed_put a.self.c _ _ (search rules) c.put_number.ensures.behind)
     (then_put _ _ _ _ _ (signed_put a.self.arm _ _ (search rules) c.put_number-2.ensures.behind)
-    (then_put _ _ _ _ _ c.put_size.ensures.behind
+    (then_put _ _ _ _ _ c.put_number-3.ensures.behind
     (none_put _)))) in
     put ∙ all_put (values_of (entry.Change a.self)) a.text.now.bytes

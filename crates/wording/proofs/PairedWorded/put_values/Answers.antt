@@ -8,14 +8,14 @@ use Rattle.wording.proofs.PairedWorded.put_values.Goals as goal
 pub returns : goal.returns
 returns c =
     let a = c.args in
-    let put : c.put_size-7.new.text.bytes ≡ put_all (values_of (entry.Paired a.self)) a.text.now.bytes =
-    (then_put _ _ _ _ _ c.put_size.ensures.behind
-    (then_put _ _ _ _ _ c.put_size-2.ensures.behind
-    (then_put _ _ _ _ _ c.put_size-3.ensures.behind
-    (then_put _ _ _ _ _ c.put_size-4.ensures.behind
-    (then_put _ _ _ _ _ c.put_size-5.ensures.behind
-    (then_put _ _ _ _ _ (signed_put a.self.a _ _ (search rules) c.put_number.ensures.behind)
-    (then_put _ _ _ _ _ c.put_size-6.ensures.behind
-    (then_put _ _ _ _ _ c.put_size-7.ensures.behind
+    let put : c.put_number-8.new.text.bytes ≡ put_all (values_of (entry.Paired a.self)) a.text.now.bytes =
+    (then_put _ _ _ _ _ c.put_number.ensures.behind
+    (then_put _ _ _ _ _ c.put_number-2.ensures.behind
+    (then_put _ _ _ _ _ c.put_number-3.ensures.behind
+    (then_put _ _ _ _ _ c.put_number-4.ensures.behind
+    (then_put _ _ _ _ _ c.put_number-5.ensures.behind
+    (then_put _ _ _ _ _ (signed_put a.self.a _ _ (search rules) c.put_number-6.ensures.behind)
+    (then_put _ _ _ _ _ c.put_number-7.ensures.behind
+    (then_put _ _ _ _ _ c.put_number-8.ensures.behind
     (none_put _))))))))) in
     put ∙ all_put (values_of (entry.Paired a.self)) a.text.now.bytes
