@@ -63,10 +63,13 @@ impl Header {
 
 // The header of a file that ends at `end`: the length of all that follows it, the version, and the count of entries.
 pub fn put_header(out: &mut [u8], end: usize, count: usize)
-    requires { (6 ≤ length out.old) × (6 ≤ end) }
+    requires { 6 ≤ length out.old }
     ensures { out.new ≡ written out.old 0 (header_of (end - 4) count) }
 {
-    words::put_number(&mut out[..Header::VERSION], (end - Header::VERSION) as u64);
+    words::put_number(
+        &mut out[..Header::VERSION],
+        end.saturating_sub(Header::VERSION) as u64,
+    );
     out[Header::VERSION] = Version::WRITTEN as u8;
     words::put_number(&mut out[Header::VERSION + 1..Header::LENGTH], count as u64);
 }

@@ -1,5 +1,6 @@
 // What stands in a text: its parts, its numbers, bytes as digits of sixteen.
-ghost use Rattle.std.specs.Prelude.{◌≡◌, ◌⊎◌, ◌∷◌, ◌++◌, ◌/◌, ◌<◌, ◌≤◌, [], length, IfOk, min};
+ghost use Rattle.std.specs.Prelude.{◌≡◌, ◌⊎◌, ◌∷◌, ◌++◌, ◌/◌, ◌<◌, [], length, take, IfOk, min};
+ghost use Rattle.std.specs.Str.{IsCharBoundary};
 ghost use Rattle.script.specs.Digits.{digits_from, sixteen, Spells};
 
 use lines::lent;
@@ -25,7 +26,8 @@ pub fn parted(text: &str, by: char) -> (&str, &str)
 // The letter that a text begins with and what stands behind it; nothing and all where it begins with none.
 pub fn lettered(text: &str) -> (&str, &str)
     ensures whole { result.0.now ++ result.1.now ≡ text.now }
-    ensures letter { length result.0.now ≤ 1 }
+    ensures letter { IsCharBoundary text.now 1 → result.0.now ≡ take 1 text.now }
+    ensures none { (IsCharBoundary text.now 1 → ⊥) → result.0.now ≡ [] }
 {
     text.split_at_checked(1).unwrap_or(("", text))
 }

@@ -28,9 +28,7 @@ returns-then-out-length c =
     sym (too_short es c.args.out.now (omega (arith, size)))
 
 pub put_header-requires : goal.put_header-requires
-put_header-requires c =
-    let size = file_size c.entries-list.result.now in
-    (omega (arith, c.length_of-length.ensures, size), omega (arith, c.length_of-length.ensures, size))
+put_header-requires c = omega (arith, c.length_of-length.ensures, file_size c.entries-list.result.now)
 
 pub returns : goal.returns
 returns c =

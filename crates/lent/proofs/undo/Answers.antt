@@ -29,8 +29,7 @@ overflow_sub-found c =
 pub put_header-requires : goal.put_header-requires
 put_header-requires c =
     let f = c.in_ok-found.ensures in
-    let there = last_there f.0 _ _ f.2.last c.in_ok-last.ensures.value in
-    (omega (arith, file_size f.0, held_room c.args.buffer.now f.0 f.1), omega (arith, there.0))
+    omega (arith, file_size f.0, held_room c.args.buffer.now f.0 f.1)
 
 pub returns : goal.returns
 returns c =
