@@ -1,6 +1,6 @@
 /*
  * The weight and balance of gliders: weighings, data sheets, changes of
- * equipment, and the loading placard.
+ * equipment, the loading placard, and the equipment by station.
  *
  * Units. A weight is whole grams, an arm or a distance whole hundredths of a
  * millimetre. An arm is positive aft of the datum unless it is said otherwise.
@@ -22,14 +22,17 @@
  *
  * Every function answers 0 where the call is accepted, else the number of its
  * refusal: the first, in the order given with the function, whose condition
- * holds. A refusal changes no byte of any buffer. A call keeps nothing behind:
- * no state, no memory, no pointer. Threads may call at the same time, but not
- * while one of them writes to a buffer that another uses.
+ * holds. A refusal changes no byte of any buffer, column or count. A call keeps
+ * nothing behind: no state, no memory, no pointer. Threads may call at the same
+ * time, but not while one of them writes to what another uses.
  *
- * A buffer is a pointer to its first byte and its length in bytes. The pointer
- * must not be null and must be valid for that length, even where the length is
- * 0; the length must be at most PTRDIFF_MAX; the buffers of one call must not
- * overlap. Where this is not kept, the behaviour is undefined.
+ * A buffer is a pointer to its first byte and its length in bytes. A column is a
+ * pointer to its first number and its length in numbers, aligned for its type as
+ * every array of it is; a count is a pointer to one number. No pointer may be
+ * null; each must be valid for its length, even where the length is 0; no length
+ * may come to more than PTRDIFF_MAX bytes; the buffers, the columns and the count
+ * of one call must not overlap. Where this is not kept, the behaviour is
+ * undefined.
  */
 #ifndef NODHULIKA_H
 #define NODHULIKA_H
@@ -60,6 +63,10 @@ extern "C" {
 /* Bytes of an answer: three numbers of eight bytes each. */
 #define NODHULIKA_ANSWER 24
 
+/* The most arms that the equipment of a record can have: those of 63 changes
+ * behind a weighing. */
+#define NODHULIKA_MOST_ARMS 63
+
 /* What the functions answer. G is the glider's empty total, n its non-lifting
  * weight. Of a paired weighing it is enough that a condition holds of one
  * reading. */
@@ -89,7 +96,7 @@ enum nodhulika_refusal {
     NODHULIKA_FULL = 9,
     /* The record has no entry to take back. */
     NODHULIKA_BARE = 10,
-    /* A buffer is shorter than what would be written to it. */
+    /* A buffer or a column is shorter than what would be written to it. */
     NODHULIKA_SHORT = 11,
     /* The bytes are not the file of any record that accepted calls give. */
     NODHULIKA_FILE = 12
@@ -313,6 +320,36 @@ NODHULIKA_MUST_USE
 uint64_t nodhulika_placard(const uint8_t *buffer, size_t buffer_length,
                            uint8_t *out, size_t out_length,
                            uint8_t *answer, size_t answer_length);
+
+/*
+ * The equipment by station: what the changes behind the last weighing, plain or
+ * paired, come to at each arm, from the nose aft. Data sheets and seats between
+ * the changes make no difference. All three columns are filled from their front,
+ * an element for each arm; elements behind the last stay. NODHULIKA_MOST_ARMS
+ * elements hold the equipment of every record; where there is no change, columns
+ * of length 0 will do.
+ *
+ * buffer: the record.
+ * arms: where the arms go, each once, the foremost first, which is the smallest.
+ * weights: where the net weight at each arm goes, in grams: the sum of c over the
+ *    changes there; 0 where what was fitted was taken out again, negative where
+ *    more was.
+ * nonlifting: where the net non-lifting weight at each arm goes, in grams: the
+ *    same over the non-lifting parts there.
+ * count: where the number of arms goes. It is written only where the call is
+ *    accepted.
+ *
+ * The columns hold whole grams, and not half grams.
+ *
+ * Answers NODHULIKA_OK or, in this order, NODHULIKA_FILE, NODHULIKA_UNWEIGHED,
+ * NODHULIKA_SHORT (of any of the three columns).
+ */
+NODHULIKA_MUST_USE
+uint64_t nodhulika_equipment(const uint8_t *buffer, size_t buffer_length,
+                             int64_t *arms, size_t arms_length,
+                             int64_t *weights, size_t weights_length,
+                             int64_t *nonlifting, size_t nonlifting_length,
+                             uint64_t *count);
 
 /*
  * The length in bytes of the file at the front of a buffer, which

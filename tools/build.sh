@@ -1,6 +1,6 @@
 #!/bin/sh
 # Proves and builds what a workshop or another program uses, and puts it under target/:
-#   tools/build.sh programs   bin/logbook, bin/placard, bin/show
+#   tools/build.sh programs   bin/logbook, bin/placard, bin/show, bin/equipment
 #   tools/build.sh counted    bin/counted
 #   tools/build.sh library    staticlib/libnodhulika.a, by the compiler that is written in Rattle: it calls nothing
 #   tools/build.sh library-llvm    the same by LLVM: it calls memset and memmove
@@ -24,6 +24,7 @@ programs)
     program logbook_to_record logbook
     program placard placard
     program show show
+    program equipment equipment
     ;;
 counted)
     program counted counted

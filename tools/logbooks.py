@@ -1,5 +1,5 @@
 """The logbook's language, read and written by the oracle's reckoning: what the program `logbooks` takes and prints, and the
-samples' placards."""
+samples' placards and equipment."""
 
 import contextlib
 import io
@@ -10,8 +10,8 @@ from pathlib import Path
 import cases
 import files
 import plates
-from oracle import Change, Paired, Seat, Sheet, Weighing, add, centre_of_gravity, file_of, placard, read, undo
-from oracle import HALVES, SIGNED
+from oracle import Change, Paired, Seat, Sheet, Weighing, add, centre_of_gravity, equipment_text, file_of, placard, read, undo
+from oracle import HALVES, SIGNED, last_weighing, stations
 
 ROOT = Path(__file__).parent.parent
 SAMPLES = ROOT / "samples"
@@ -265,7 +265,7 @@ def case_line(text):
 
 IN_TURN = (
     *("astir_cs", "astir_cs_two_bars", "astir_cs_read_twice", "blanik_l13_normal", "blanik_l13_aerobatic", "twin_astir"),
-    *("discus", "discus_tail_lead", "g102_astir_cs", "g103_twin_ii", "astir_cs_seat_back"),
+    *("discus", "discus_tail_lead", "g102_astir_cs", "g103_twin_ii", "astir_cs_seat_back", "astir_cs_refitted"),
 )
 
 
@@ -285,7 +285,8 @@ def plate_of(name):
 def sample_line(name):
     rows, blank, plate = plate_of(name)
     length = len(file_of(sample(name)))
-    return f"{name}.txt: placard as stored, rows {rows} blank {blank}, file {length} again\n".encode()
+    placard_part = f"placard as stored, rows {rows} blank {blank}"
+    return f"{name}.txt: {placard_part}, equipment as stored, file {length} again\n".encode()
 
 
 def figures():
@@ -308,6 +309,12 @@ def figures():
     assert plates.front_limits((weighed, limits._replace(rear_step=1000))) == [(low, 110) for low in least]
     assert plates.ends_of(sample("discus"))[0] == (72, 110)
     assert plates.ends_of(sample("discus_tail_lead"))[0] == (89, 110)
+    refitted = stations(last_weighing(sample("astir_cs_refitted"))[1])
+    assert plates.ends_of(sample("astir_cs_refitted"))[0] == (67, 89)
+    assert [at for at, c, part in refitted if c == 0] == [-61000] and [at for at, c, part in refitted if part not in (0, c)] == [35000]
+    assert equipment_text(sample("astir_cs")) == "sum 0.000 0.000\n"
+    assert equipment_text(sample("astir_cs_two_bars")) == "-1000.00 3.000 3.000\nsum 3.000 3.000\n"
+    assert equipment_text(sample("discus_tail_lead")) == "4100.00 4.020 4.020\nsum 4.020 4.020\n"
 
 
 # What the program takes and prints.
@@ -325,9 +332,10 @@ def cases_taken():
     sys.stdout.buffer.write(b"".join(text + b"~" for text in in_blocks()))
 
 
-def placards():
-    """The samples' placards, beside them, and the copy of all samples."""
+def texts():
+    """The samples' placards and equipment, beside them, and the copy of all samples."""
     for name in IN_TURN:
         (SAMPLES / f"{name}.placard").write_bytes(plate_of(name)[2])
+        (SAMPLES / f"{name}.equipment").write_text(equipment_text(sample(name)))
     for path in SAMPLES.iterdir():
         (COPY / path.name).write_bytes(path.read_bytes())

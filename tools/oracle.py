@@ -1,4 +1,4 @@
-"""An independent reckoning of paper 01 and of paper 02's cards 1, 2 and 4 in whole numbers, to hold the programs against.
+"""An independent reckoning of paper 01 and of paper 02's cards 1, 2, 4 and 5 in whole numbers, to hold the programs against.
 
     python3 tools/oracle.py cases > crates/cases/stdout
     python3 tools/oracle.py files > crates/files/stdout
@@ -6,8 +6,11 @@
     python3 tools/oracle.py plates > crates/plates/stdout
     python3 tools/oracle.py logbooks > crates/logbooks/stdout
     python3 tools/oracle.py logbook-cases > crates/logbooks/stdin
-    python3 tools/oracle.py sample-placards    (writes samples/*.placard)
-    python3 tools/oracle.py programs    (writes stdin and stdout of placard, full_file, long_file, full_plate, show, logbook_to_record)
+    python3 tools/oracle.py inventories > crates/inventories/stdout
+    python3 tools/oracle.py inventory-cases > crates/inventories/stdin
+    python3 tools/oracle.py sample-texts    (writes samples/*.placard and samples/*.equipment)
+    python3 tools/oracle.py programs    (writes stdin and stdout of placard, full_file, long_file, full_plate, show, equipment,
+                                         logbook_to_record)
 
 A journal is the tuple of the entries accepted so far. A call takes a journal and answers its number, 0 where it is
 accepted, and the journal afterwards.
@@ -139,15 +142,23 @@ def changed_balance(balance, x):
     return Balance(balance.total + c, balance.moment + c * x.arm, nonlifting)
 
 
-def balance_of(journal):
-    """The last weighing, plain or paired, with the changes behind it, or None."""
+def last_weighing(journal):
+    """The last weighing, plain or paired, and the changes behind it, or None."""
     places = [i for i, entry in enumerate(journal) if isinstance(entry, (Weighing, Paired))]
     if not places:
         return None
-    balance = weighed_balance(journal[places[-1]])
-    for entry in journal[places[-1] :]:
-        if isinstance(entry, Change):
-            balance = changed_balance(balance, entry)
+    weighing, *behind = journal[places[-1] :]
+    return weighing, [entry for entry in behind if isinstance(entry, Change)]
+
+
+def balance_of(journal):
+    """The last weighing with the changes behind it, or None."""
+    last = last_weighing(journal)
+    if last is None:
+        return None
+    balance = weighed_balance(last[0])
+    for x in last[1]:
+        balance = changed_balance(balance, x)
     return balance
 
 
@@ -425,10 +436,62 @@ def placard(journal, buffer):
     return 0, length, len(rows), blank, text + buffer[length:]
 
 
+# Equipment by station.
+
+
+class Station(NamedTuple):
+    """What the changes at one arm come to, in grams."""
+
+    arm: int
+    weight: int
+    nonlifting: int
+
+
+def station(changes, arm):
+    here = [x for x in changes if x.arm == arm]
+    return Station(arm, sum(x.c for x in here), sum(x.c for x in here if x.flag == 1))
+
+
+def stations(changes):
+    """Each arm once, the foremost first."""
+    return [station(changes, arm) for arm in sorted({x.arm for x in changes})]
+
+
+def equipment(journal, columns):
+    """Number, count of arms and the three columns afterwards."""
+    last = last_weighing(journal)
+    if last is None:
+        return UNWEIGHED, 0, columns
+    found = stations(last[1])
+    count = len(found)
+    if any(len(column) < count for column in columns):
+        return SHORT, 0, columns
+    filled = zip(*found) if found else ((), (), ())
+    return 0, count, [[*front, *column[count:]] for front, column in zip(filled, columns)]
+
+
+def decimal(number, places):
+    """A number of the smallest units, with a point before so many digits and one digit at least before the point."""
+    whole, rest = divmod(abs(number), 10**places)
+    return f"{'-' if number < 0 else ''}{whole}.{rest:0{places}d}"
+
+
+def equipment_text(journal):
+    """What is printed of a record that was weighed: a line for each arm in millimetres, its net weight and its net
+    non-lifting weight in kilograms; and the sums, which are those of the changes."""
+    weighing, changes = last_weighing(journal)
+    lines = [f"{decimal(arm, 2)} {decimal(c, 3)} {decimal(part, 3)}\n" for arm, c, part in stations(changes)]
+    total, nonlifting = sum(x.c for x in changes), sum(x.c for x in changes if x.flag == 1)
+    before, after = weighed_balance(weighing), balance_of(journal)
+    assert (after.total - before.total, after.nonlifting - before.nonlifting) == (HALVES * total, HALVES * nonlifting)
+    return "".join([*lines, f"sum {decimal(total, 3)} {decimal(nonlifting, 3)}\n"])
+
+
 if __name__ == "__main__":
     sys.dont_write_bytecode = True
     import cases
     import files
+    import inventories
     import logbooks
     import plates
     import programs
@@ -440,7 +503,9 @@ if __name__ == "__main__":
         "plates": plates.report,
         "logbooks": logbooks.report,
         "logbook-cases": logbooks.cases_taken,
-        "sample-placards": logbooks.placards,
+        "inventories": inventories.report,
+        "inventory-cases": inventories.taken,
+        "sample-texts": logbooks.texts,
         "programs": programs.write,
     }
     if len(sys.argv) != 2 or sys.argv[1] not in reports:

@@ -1,17 +1,18 @@
 -- What is asked of a change, and what it makes of a balance, over ℤ. Assumes nothing.
 use mathlib.Core.Path.{◌≡◌, refl, ◌∙◌, ap, ap₂}
-use mathlib.Core.Bool.{Bool, true, false, not, cond, ◌&&◌}
+use mathlib.Core.Bool.{Bool, true, false, not, cond}
 use mathlib.Core.Option.{some}
 use mathlib.Core.List.{[], ◌∷◌}
 use Prim.Native.Nat.{ℕ}
 use native.Mathlib.Omega.{arith}
-use lib.Dec.{leb, eqb}
-use lib.IntN.{ℤ, pos, negsuc, nat_abs, ◌+ℤ◌, ◌*ℤ◌}
+use lib.Dec.{eqb}
+use lib.IntN.{ℤ, pos, negsuc, ◌+ℤ◌, ◌*ℤ◌}
 use lib.Signed.{le_z, lt_z, ◌≤ℤ◌}
 use borrow.Author.Tests.{not-false}
 use Rattle.laws.specs.Tests.{both, left, right, not_left, not_right}
 use Rattle.laws.specs.Z.{zs, is_nat, is_int, is_mul, goal_le_z, hyp_nlt_z}
 use Rattle.laws.specs.Sides.{value_of, sides_of, sum_of, value_sides, value_sum}
+use Rattle.paper.proofs.Changes.{weight_range}
 use Rattle.paper.proofs.Numbers.{no_first, no_other}
 use Rattle.paper.specs.declared.Change.{Change}
 use Rattle.paper.specs.Units.{between, is_arm, half_grams}
@@ -33,25 +34,6 @@ ranged {lo} {hi} {z} e =
 pub inside : (lo hi z : ℤ) → lt_z z lo ≡ false → lt_z hi z ≡ false → between lo hi z ≡ true
 inside lo hi z l h = both (le_z lo z) (le_z z hi) (goal_le_z lo z (hyp_nlt_z z lo l)) (goal_le_z z hi (hyp_nlt_z hi z h))
 
--- ---- c and the flag in their ranges
-
-module _ (x : Change) where
-  abbrev low : Bool
-  low = le_z (negsuc 1999999) x.c
-
-  abbrev high : Bool
-  high = le_z x.c (pos 2000000)
-
-  abbrev some' : Bool
-  some' = not (eqb (nat_abs x.c) 0)
-
-  abbrev flag : Bool
-  flag = leb x.flag 1
-
-  pub c_range : is_change x ≡ true → (negsuc 1999999 ≤ℤ x.c) × (x.c ≤ℤ pos 2000000)
-  unfolding is_change
-  c_range e = ranged (left (low && high) some' (left (low && high && some') flag e))
-
 -- ---- what a change makes of G and n
 
 -- what it adds, in half grams, and what of that counts as non-lifting
@@ -64,7 +46,7 @@ part x = cond (eqb x.flag 1) (gain x) (pos 0)
 pub gain_range : (x : Change) → is_change x ≡ true → (negsuc 3999999 ≤ℤ gain x) × (gain x ≤ℤ pos 4000000)
 unfolding half_grams
 gain_range x e =
-    let r = c_range x e in
+    let r = weight_range x e in
     let d = is_mul (is_nat 2) (is_int x.c) in
     (omega (arith, zs, r.0, d), omega (arith, zs, r.1, d))
 

@@ -1,2 +1,3 @@
 pub mod RecordCalls
 pub mod LibraryCalls
+pub mod Stations

@@ -2,9 +2,9 @@
 use language::Line;
 use lines::{lent, sum};
 use nodhulika::{
-    ANSWER, nodhulika_centre, nodhulika_change, nodhulika_check, nodhulika_fresh,
-    nodhulika_placard, nodhulika_read, nodhulika_seat, nodhulika_sheet, nodhulika_undo,
-    nodhulika_weigh, nodhulika_weigh_paired,
+    ANSWER, nodhulika_centre, nodhulika_change, nodhulika_check, nodhulika_equipment,
+    nodhulika_fresh, nodhulika_placard, nodhulika_read, nodhulika_seat, nodhulika_sheet,
+    nodhulika_undo, nodhulika_weigh, nodhulika_weigh_paired,
 };
 use paper::Entry;
 use script::texts::{SPELLED, digits, parted, spelled};
@@ -15,6 +15,12 @@ const ROOM: usize = 4096;
 
 // The longest placard's buffer that a case gives.
 const PLACARD: usize = 9400;
+
+// The longest column that a case gives.
+const COLUMN: usize = 70;
+
+// What each element of a column is before it is filled.
+const UNFILLED: i64 = -1_000_000_007;
 
 // An answer behind the others of its case.
 fn answer(rt: &impl Print, n: u64) -> io::Result<()> {
@@ -68,6 +74,37 @@ fn centre(rt: &impl Print, record: &[u8]) -> io::Result<()> {
         print!(rt; " {total} {moment} {centre}")?;
     }
     Ok(())
+}
+
+// The first elements of a column, by how many a text says.
+fn column<'a>(elements: &'a mut [i64], size: &str) -> &'a mut [i64] {
+    let size = (digits(size.as_bytes()) as usize).min(elements.len());
+    &mut elements[..size]
+}
+
+// A sum that goes on over a column, in which each place counts.
+fn summed(n: u64, column: &[i64]) -> u64 {
+    column.iter().fold(n, |n: u64, x| {
+        n % 1_000_003 * 257 + x.rem_euclid(1_000_003).cast_unsigned()
+    })
+}
+
+// `Equipment A B C`: the number, how many arms there are where it is 0, and the sum of the three columns.
+fn equipment(rt: &impl Print, sizes: &str, record: &[u8]) -> io::Result<()> {
+    let (a, rest) = parted(sizes, ' ');
+    let (b, c) = parted(rest, ' ');
+    let unfilled = [UNFILLED; COLUMN];
+    let (mut arms, mut weights, mut nonlifting) = (unfilled, unfilled, unfilled);
+    let arms = column(&mut arms, a);
+    let weights = column(&mut weights, b);
+    let nonlifting = column(&mut nonlifting, c);
+    let mut count = 0;
+    let n = nodhulika_equipment(record, arms, weights, nonlifting, &mut count);
+    answer(rt, n)?;
+    if n == 0 {
+        answer(rt, count)?;
+    }
+    answer(rt, summed(summed(summed(0, arms), weights), nonlifting))
 }
 
 // `Placard N`, which ends a case: the number, bytes, rows and blank rows where it is 0, and the sum of the whole placard's
@@ -128,8 +165,8 @@ impl Case {
     // The action of a line by its first word. `Lent HEX` puts these bytes at the front of the buffer, as they are.
     pub fn act(&mut self, rt: &impl Print, line: &str) -> io::Result<()> {
         let record = lent(&mut self.buffer, self.room);
-        let (word, taken) = parted(line, ' ');
-        let taken = taken.as_bytes();
+        let (word, rest) = parted(line, ' ');
+        let taken = rest.as_bytes();
         match word {
             "" => Ok(()),
             "Fresh" => self.fresh(rt, digits(taken) as usize),
@@ -141,6 +178,7 @@ impl Case {
             "Placard" => placard(rt, digits(taken) as usize, record),
             "Check" => check(rt, record),
             "Centre" => centre(rt, record),
+            "Equipment" => equipment(rt, rest, record),
             _ => call(rt, line, record),
         }
     }

@@ -6,7 +6,7 @@ use Rattle.std.proofs.Math.Bool.{and-false, or-true}
 use Rattle.std.proofs.Math.Option.{Option}
 use Rattle.std.specs.Int.Signed.{le_z}
 use Rattle.std.proofs.lemmas.Bool.{not-false, lt-leb}
-use Rattle.laws.specs.Tests.{kept, left, right}
+use Rattle.laws.specs.Tests.{kept, right}
 use Rattle.laws.specs.Z.{zs}
 use Rattle.paper.specs.declared.Weighing.{Weighing}
 use Rattle.paper.specs.declared.Paired.{Paired}
@@ -18,8 +18,9 @@ use Rattle.paper.specs.declared.Entry.TheVariants as entry
 use Rattle.paper.specs.Units.{is_weight, is_arm}
 use Rattle.paper.specs.Record.{Balance, alike, paired, total_of, balance_of, is_none, sheet_stands}
 use Rattle.paper.specs.File.{Field, complement, field_value, byte, word, signed_word, layout_of, values_of}
-use Rattle.paper.specs.Refusals.{first_number, bad_reading, bad_distance, bad_part, weighing_faults, weighing_number, sheet_faults, sheet_number, is_change, bad_change, change_faults, change_number, bad_ends, seat_faults, seat_number, entry_number, full}
+use Rattle.paper.specs.Refusals.{first_number, bad_reading, bad_distance, bad_part, weighing_faults, weighing_number, sheet_faults, sheet_number, is_change, change_faults, change_number, bad_ends, seat_faults, seat_number, entry_number, full}
 use Rattle.paper.proofs.Numbers.{no_first, no_other}
+use Rattle.paper.proofs.Changes.{weight_range, accepted_change}
 use Rattle.paper.proofs.Units.{arm_range}
 use Rattle.paper.proofs.Weighings.{Fine, first_fine, second_fine}
 use Rattle.sheet.proofs.Accepted.{accepted-sheet}
@@ -135,18 +136,14 @@ sheet_fits s e =
     and fit_word s.water.step steps.water.1
     and done
 
-change_fine : (o : Option Balance) (x : Change) → bad_change o x ≡ false → is_change x ≡ true
-unfolding bad_change
-change_fine o x e = kept (is_change x) e (λ h. simp h)
-
 change_fits : (o : Option Balance) (x : Change) → first_number (change_faults o x) ≡ 0 → AllFit (fields_of (entry.Change x)) (values_of (entry.Change x))
 unfolding change_faults layout_of is_change is_arm
 change_fits o x e =
     let e₂ = no_other 7 (is_none o) _ (omega arith) e in
     let at = no_first 2 (not (is_arm x.arm)) _ (omega arith) e₂ in
-    let range = change_fine o x (no_first 6 (bad_change o x) _ (omega arith) (no_other 2 (not (is_arm x.arm)) _ (omega arith) e₂)) in
+    let range = (accepted_change o x e).1 in
     let some = not (eqb (nat_abs x.c) 0) in
-    fit_signed x.c (arm_range x.c (left (is_arm x.c) some (left (is_arm x.c && some) (leb x.flag 1) range)))
+    fit_signed x.c (weight_range x range)
     and fit_signed x.arm (arm_range x.arm (not-false (is_arm x.arm) at))
     and fit_byte x.flag (omega (arith, leb-true x.flag 1 (right (is_arm x.c && some) (leb x.flag 1) range)))
     and done

@@ -1,6 +1,6 @@
 -- A record lent as its file at the front of a buffer: the list that the buffer holds, and what the calls answer that ask for its
--- centre of gravity and its placard. The numbers are the paper's, behind 12 where the buffer holds no record.
-use Rattle.std.specs.Prelude.{◌≡◌, List, ℕ, ◌+◌, take, Result, Ok, Err, Some, None}
+-- centre of gravity, its equipment and its placard. The numbers are the paper's, behind 12 where the buffer holds no record.
+use Rattle.std.specs.Prelude.{◌≡◌, List, ℕ, ℤ, ◌+◌, take, Result, Ok, Err, Some, None}
 use Rattle.std.specs.Prelude.{Option as RustOption}
 use Rattle.std.specs.Borrow.{Bor}
 use Rattle.std.proofs.Math.Option.{Option, none, some}
@@ -11,7 +11,7 @@ use Rattle.paper.specs.declared.Refusal.{Refusal}
 use Rattle.paper.specs.declared.Refusal.TheVariants as refusal
 use Rattle.paper.specs.File.{number_of}
 use Rattle.paper.specs.Refusals.{file_of, reading_number}
-use Rattle.paper.specs.Answers.{centre_answer, placard_answer}
+use Rattle.paper.specs.Answers.{centre_answer, equipment_answer, placard_answer}
 use Rattle.stored.specs.declared.Contents.{Contents}
 use Rattle.stored.specs.Found.{Finds}
 
@@ -41,6 +41,11 @@ check_number xs = reading_number (file_in xs)
 unfoldable pub centre_for : Option (List Entry) → Result CentreOfGravity Refusal
 centre_for none = Err refusal.NoFile
 centre_for (some es) = centre_answer es
+
+-- equipment by station into three columns: the answer, and the columns
+unfoldable pub equipment_for : Option (List Entry) → List ℤ → List ℤ → List ℤ → Result ℕ Refusal × List ℤ × List ℤ × List ℤ
+equipment_for none arms weights nonlifting = (Err refusal.NoFile, arms, weights, nonlifting)
+equipment_for (some es) arms weights nonlifting = equipment_answer es arms weights nonlifting
 
 -- placard into another buffer: the answer, and that buffer
 unfoldable pub placard_for : Option (List Entry) → List ℕ → Result Placard Refusal × List ℕ

@@ -4,7 +4,7 @@
 // stands behind the file is free.
 ghost use Rattle.std.specs.Prelude.{◌≡◌};
 ghost use Rattle.paper.specs.Numbers.{number_in};
-ghost use Rattle.front.specs.Front.{held_in, FrontOf, Holds, check_number, centre_for, placard_for};
+ghost use Rattle.front.specs.Front.{held_in, FrontOf, Holds, check_number, centre_for, equipment_for, placard_for};
 
 use paper::{CentreOfGravity, Placard, Refusal};
 use stored::Contents;
@@ -39,6 +39,26 @@ pub fn centre(buffer: &[u8]) -> Result<CentreOfGravity, Refusal>
     ensures { result ≡ centre_for (held_in buffer.now) }
 {
     centre::answer(&held(buffer)?.standing)
+}
+
+// The equipment by station, into three columns.
+pub fn equipment(
+    buffer: &[u8],
+    arms: &mut [i64],
+    weights: &mut [i64],
+    nonlifting: &mut [i64],
+) -> Result<usize, Refusal>
+    ensures { (result, arms.new, weights.new, nonlifting.new) ≡ equipment_for (held_in buffer.now) arms.old weights.old nonlifting.old }
+{
+    let file = front(buffer).ok_or(Refusal::NoFile)?;
+    let found = equipped::found(file).ok_or(Refusal::NoFile)?;
+    columns::answer(
+        found.weighed,
+        found.fittings.equipment(),
+        arms,
+        weights,
+        nonlifting,
+    )
 }
 
 // The placard, into another buffer.

@@ -3,33 +3,40 @@
 --
 -- The hypotheses are lists of calls as they run and single calls, by the calls' own promises: `read.Post` is what the contract
 -- of `file::read` promises of one call (its arguments, its answer, the arguments as it leaves them), and so with the others. What
--- the words mean is in crates/paper/specs, and for the logbook and the library in crates/language/specs, crates/book/specs,
--- crates/front/specs and crates/lent/specs; docs/ARCHITECTURE.md leads from the paper to each of them. Assumes nothing.
-use Rattle.std.specs.Prelude.{◌≡◌, Bool, true, not, ◌&&◌, List, ℕ, ◌*◌, ◌≤◌, ◌<◌, ℤ, length, get_or, set, take, Result, Ok, Some}
+-- the words mean is in crates/paper/specs, for equipment in crates/inventory/specs and crates/schedule/specs, and for the logbook and
+-- the library in crates/language/specs, crates/book/specs, crates/front/specs, crates/lent/specs and crates/nodhulika/specs;
+-- docs/ARCHITECTURE.md leads from the paper to each of them. Assumes nothing.
+use Rattle.std.specs.Prelude.{◌≡◌, Bool, true, false, not, ◌&&◌, List, [], ◌∷◌, ℕ, ◌*◌, ◌≤◌, ◌<◌, ℤ, length, get_or, set, take, Result, Ok, Some}
+use Rattle.std.proofs.Common.{sym, ◌∙◌}
 use Rattle.std.proofs.Math.Option.{some}
 use Rattle.std.specs.Int.Signed.{le_z}
 use Rattle.std.specs.Borrow.{Bor, MutBor}
 use Rattle.laws.specs.Lists.{Each}
 use Rattle.laws.specs.Splits.{split}
 use Rattle.laws.specs.Sides.{value_of}
+use Rattle.paper.specs.declared.Change.{Change}
 use Rattle.paper.specs.declared.Entry.{Entry}
+use Rattle.paper.specs.declared.CentreOfGravity.{CentreOfGravity}
 use Rattle.paper.specs.declared.Placard.{Placard}
 use Rattle.paper.specs.declared.Sheet.{Sheet}
 use Rattle.paper.specs.declared.Seat.{Seat}
 use Rattle.paper.specs.declared.Refusal.{Refusal}
 use Rattle.paper.specs.Units.{between}
-use Rattle.paper.specs.Record.{Balance as Plain, sheet_of, seat_of, ends_of}
+use Rattle.paper.specs.Record.{Balance as Plain, Readings, weighed, last_weighing, balance_of, sheet_of, seat_of, ends_of}
+use Rattle.paper.specs.Equipment.{fitted, FromNose, equipment_of, arm_column, with_equipment, SameButOrder}
 use Rattle.paper.specs.Rows.{moment_beside, every_arm, some_arm, keeps_at}
 use Rattle.paper.specs.Placard.{feed}
 use Rattle.paper.specs.File.{file_as, file_bytes}
-use Rattle.paper.specs.Refusals.{accepted}
-use Rattle.paper.specs.Answers.{over}
+use Rattle.paper.specs.Refusals.{entry_number, accepted}
+use Rattle.paper.specs.Answers.{over, equipment_answer}
 use Rattle.paper.specs.Journal.{Call, journal, numbers}
 use Rattle.paper.proofs.Seats.{ends_of_lem}
 use Rattle.seat.proofs.Lists.{ends-accepted}
 use Rattle.format.specs.Files.{Allows}
 use Rattle.balance.specs.declared.Balance.{Balance}
 use Rattle.balance.specs.Balance.{plain, Bounded}
+use Rattle.stations.proofs.Arms.{arms_are, only_arms, column_is}
+use Rattle.stations.proofs.Sums.{balance_by_station}
 use Rattle.planes.specs.Plane.{kept_at}
 use Rattle.planes.proofs.Arms as arms
 use Rattle.aboard.specs.declared.Laden.{Laden}
@@ -42,10 +49,19 @@ use Rattle.file.proofs.longest.Reads as file-longest
 use Rattle.file.proofs.write.Reads as write
 use Rattle.file.proofs.read.Reads as read
 use Rattle.file.proofs.RoundTrips as trips
+use Rattle.record.proofs.Record.centre_of_gravity.Reads as centre
 use Rattle.plate.specs.Longest as plate
 use Rattle.plate.proofs.longest.Reads as plate-longest
 use Rattle.plate.proofs.placard.Reads as placard
+use Rattle.inventory.specs.Most.{IsMost}
+use Rattle.inventory.proofs.most.Reads as most
+use Rattle.inventory.proofs.equipment.Reads as equipment
+use Rattle.inventory.proofs.show.Reads as schedule
+use Rattle.schedule.specs.Schedules.{schedule_answer}
+use Rattle.front.specs.Front.{held_in}
 use Rattle.lent.specs.Lent.{lent_call, lent_read, numbers_in, journal_in}
+use Rattle.nodhulika.specs.Exported.{equipment_into}
+use Rattle.nodhulika.proofs.nodhulika_equipment.Reads as library-equipment
 use Rattle.nodhulika.proofs.nodhulika_placard.Reads as library-placard
 use Rattle.language.specs.declared.Line.{Line}
 use Rattle.language.specs.Lines.{Means}
@@ -57,6 +73,7 @@ use Rattle.book.proofs.read.Reads as read-book
 use Rattle.listing.proofs.show.Reads as show
 use Rattle.listing.proofs.ReadAgain as read_again
 use Rattle.worked.specs.Table.{table, Says, a_to_k}
+use Rattle.worked.specs.Stations.{ten, twelve_less, more_first, less_first, same_changes, more_first_accepted, less_first_refused, less_first_number}
 use Rattle.claim.specs.Demand3 as claim
 use Rattle.claim.specs.Demand3.{Demand3, EachReading}
 use Rattle.claim.specs.RecordCalls as on-record
@@ -65,6 +82,7 @@ use Rattle.claim.specs.Buffers.{call_renewed, read_renewed, room_for_all}
 use Rattle.claim.specs.LibraryCalls as of-library
 use Rattle.claim.proofs.LibraryCalls as library-claim
 use Rattle.claim.specs.Records as records
+use Rattle.claim.proofs.Stations as by-station
 use Rattle.claim.specs.Carrying.{Carrying, sheet_in, row_moment, every_row_carried}
 
 -- ---- the whole list
@@ -118,6 +136,86 @@ some_arm_lem = arms.some_not_every
 pub ends_decide : (s : Sheet) (f : Seat) (b : Plain) (r p v : ℕ) → le_z f.lower f.higher ≡ true → every_arm f (λ (arm : ℤ). keeps_at s arm b r p v) ≡ (keeps_at s f.lower b r p v && keeps_at s f.higher b r p v)
 unfolding kept_at
 ends_decide = arms.ends_decide
+
+-- ---- equipment by station
+
+-- After a list of calls the call answers, and leaves of its three columns, what the journal of the calls says; so does that of the
+-- library to link, with the count of arms.
+pub equipment_after : {calls : List Call} {r : Record} {answers : List ℕ} → on-record.Trace calls r answers
+    → (κs : _) (b b' : Bor Record) (x x' y y' z z' : MutBor (List ℤ)) (a : Result ℕ Refusal) → b.now ≡ r → equipment.Post κs (b, (x, (y, (z, tt)))) a (b', (x', (y', (z', tt))))
+    → ◌≡◌ {A = Result ℕ Refusal × List ℤ × List ℤ × List ℤ} (a, x'.now, y'.now, z'.now) (equipment_answer (journal calls) x.now y.now z.now)
+equipment_after = by-station.equipment_after
+
+pub lent_equipment_after : {n : ℕ} {calls : List Call} {buffer answers : List ℕ} → of-library.Trace n calls buffer answers
+    → (κs : _) (b b' : Bor (List ℕ)) (x x' y y' z z' : MutBor (List ℤ)) (c c' : MutBor ℕ) (k : ℕ) → b.now ≡ buffer → library-equipment.Post κs (b, (x, (y, (z, (c, tt))))) k (b', (x', (y', (z', (c', tt)))))
+    → ◌≡◌ {A = ℕ × List ℤ × List ℤ × List ℤ × ℕ} (k, x'.now, y'.now, z'.now, c'.now) (equipment_into (some (journal_in n calls)) x.now y.now z.now c.now)
+lent_equipment_after = by-station.lent_equipment_after
+
+-- The schedule, its text, is that of the journal as well.
+pub schedule_after : {calls : List Call} {r : Record} {answers : List ℕ} → on-record.Trace calls r answers
+    → (κs : _) (b b' : Bor Record) (o o' : MutBor (List ℕ)) (a : Result ℕ Refusal) → b.now ≡ r → schedule.Post κs (b, (o, tt)) a (b', (o', tt))
+    → ◌≡◌ {A = Result ℕ Refusal × List ℕ} (a, o'.now) (schedule_answer (journal calls) o.now)
+schedule_after = by-station.schedule_after
+
+-- The column of arms rises strictly and has just the arms of the changes behind the last weighing; no other column does. Beside
+-- each arm stand the sums over the changes that are at it (`equipment_at`).
+pub arms_from_nose : (es : List Entry) → FromNose (fitted es) (arm_column (equipment_of (fitted es)))
+arms_from_nose es = rw (column_is (fitted es)) (arms_are (fitted es))
+
+pub one_column : (es : List Entry) (arms : List ℤ) → FromNose (fitted es) arms → arms ≡ arm_column (equipment_of (fitted es))
+one_column es arms h = only_arms (fitted es) arms h ∙ sym (column_is (fitted es))
+
+-- No record has more arms than `inventory::most` answers, and one has just as many.
+pub most_arms : (n : ℕ) → most.Post tt tt n tt → IsMost n
+most_arms n h = h
+
+-- The sums by station are those of the logbook's order: the nets add up to what the changes add to G, the nets at their arms to what
+-- they add to M, and the net non-lifting weights to what they add to n (`with_equipment`).
+pub sums_by_station : (es : List Entry) (r : Readings) (xs : List Change) → last_weighing es ≡ some (r, xs) → balance_of es ≡ some (with_equipment (weighed r) (equipment_of (fitted es)))
+sums_by_station = balance_by_station
+
+-- The order of the changes makes no difference. Two records whose lists have equal weighing, sheet and seat entries in equal order, and
+-- from each weighing to the next or the end the same changes in any order (`SameButOrder`), print the same plate, byte for byte, on
+-- every buffer; they have the same centre of gravity, and the same equipment.
+pub same_plate : (r q : Record) → SameButOrder (held_by r) (held_by q)
+    → (κs λs : _) (b b' c c' : Bor Record) (o o' p p' : MutBor (List ℕ)) (a k : Result Placard Refusal) → b.now ≡ r → c.now ≡ q → o.now ≡ p.now
+    → placard.Post κs (b, (o, tt)) a (b', (o', tt)) → placard.Post λs (c, (p, tt)) k (c', (p', tt))
+    → ◌≡◌ {A = Result Placard Refusal × List ℕ} (a, o'.now) (k, p'.now)
+same_plate = by-station.same_plate
+
+pub same_centre : (r q : Record) → SameButOrder (held_by r) (held_by q)
+    → (κs λs : _) (b b' c c' : Bor Record) (a k : Result CentreOfGravity Refusal) → b.now ≡ r → c.now ≡ q
+    → centre.Post κs (b, tt) a (b', tt) → centre.Post λs (c, tt) k (c', tt) → a ≡ k
+same_centre = by-station.same_centre
+
+pub same_equipment : (r q : Record) → SameButOrder (held_by r) (held_by q)
+    → (κs λs : _) (b b' c c' : Bor Record) (x x' y y' z z' u u' v v' w w' : MutBor (List ℤ)) (a k : Result ℕ Refusal) → b.now ≡ r → c.now ≡ q → x.now ≡ u.now → y.now ≡ v.now → z.now ≡ w.now
+    → equipment.Post κs (b, (x, (y, (z, tt)))) a (b', (x', (y', (z', tt)))) → equipment.Post λs (c, (u, (v, (w, tt)))) k (c', (u', (v', (w', tt))))
+    → ◌≡◌ {A = Result ℕ Refusal × List ℤ × List ℤ × List ℤ} (a, x'.now, y'.now, z'.now) (k, u'.now, v'.now, w'.now)
+same_equipment = by-station.same_equipment
+
+-- The lists that records hold are those of accepted entries, and of records that calls gave the journals of the calls.
+pub same_by_calls : {calls others : List Call} {r q : Record} {answers others-answers : List ℕ} → on-record.Trace calls r answers → on-record.Trace others q others-answers
+    → SameButOrder (journal calls) (journal others) → SameButOrder (held_by r) (held_by q)
+same_by_calls = by-station.same_by_calls
+
+-- Of the library to link: two lent records print the same plate, with the same counts, and have the same equipment.
+pub same_lent_plate : (es fs : List Entry) → SameButOrder es fs
+    → (κs λs : _) (b b' c c' : Bor (List ℕ)) (o o' p p' x x' y y' : MutBor (List ℕ)) (n m : ℕ) → held_in b.now ≡ some es → held_in c.now ≡ some fs → o.now ≡ p.now → x.now ≡ y.now
+    → library-placard.Post κs (b, (o, (x, tt))) n (b', (o', (x', tt))) → library-placard.Post λs (c, (p, (y, tt))) m (c', (p', (y', tt)))
+    → ◌≡◌ {A = ℕ × List ℕ × List ℕ} (n, o'.now, x'.now) (m, p'.now, y'.now)
+same_lent_plate = by-station.same_lent_plate
+
+pub same_lent_equipment : (es fs : List Entry) → SameButOrder es fs
+    → (κs λs : _) (b b' c c' : Bor (List ℕ)) (x x' y y' z z' u u' v v' w w' : MutBor (List ℤ)) (d d' e e' : MutBor ℕ) (n m : ℕ) → held_in b.now ≡ some es → held_in c.now ≡ some fs → x.now ≡ u.now → y.now ≡ v.now → z.now ≡ w.now → d.now ≡ e.now
+    → library-equipment.Post κs (b, (x, (y, (z, (d, tt))))) n (b', (x', (y', (z', (d', tt))))) → library-equipment.Post λs (c, (u, (v, (w, (e, tt))))) m (c', (u', (v', (w', (e', tt)))))
+    → ◌≡◌ {A = ℕ × List ℤ × List ℤ × List ℤ × ℕ} (n, x'.now, y'.now, z'.now, d'.now) (m, u'.now, v'.now, w'.now, e'.now)
+same_lent_equipment = by-station.same_lent_equipment
+
+-- Whether the entries are accepted does depend on the order: at G 10 g, 5 g more and then 12 g less is, 12 g less first is refused
+-- as 6.
+pub order_of_acceptance : SameButOrder more_first less_first × (accepted more_first ≡ true) × (accepted less_first ≡ false) × (entry_number (ten ∷ []) twelve_less ≡ 6)
+order_of_acceptance = (same_changes, more_first_accepted, less_first_refused, less_first_number)
 
 -- ---- files
 

@@ -50,3 +50,10 @@ accepted-more es e h n =
 pub accepted_before : (es fs : List Entry) → accepted (es ++ fs) ≡ true → accepted es ≡ true
 unfolding accepted
 accepted_before es fs h = left (accepted_after [] es) (accepted_after ([] ++ es) fs) (sym (accepted-append [] es fs) ∙ h)
+
+-- its last entry got no number
+pub accepted_last : (es : List Entry) (e : Entry) → accepted (es ++ e ∷ []) ≡ true → entry_number es e ≡ 0
+unfolding accepted accepted_after
+accepted_last es e h =
+    let k = right (accepted_after [] es) (accepted_after es (e ∷ [])) (sym (accepted-append [] es (e ∷ [])) ∙ h) in
+    eqb-true (entry_number es e) 0 (left (eqb (entry_number es e) 0) true k)

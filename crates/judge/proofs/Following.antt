@@ -19,7 +19,7 @@ use Rattle.seat.proofs.Lists.{force_more}
 use Rattle.judge.specs.Standing.{Stands, stands_in, number_at, balance_after, after, judged, kept_behind}
 
 -- a weighing, plain or paired, is the last
-last-opened : (es : List Entry) (e : Entry) (x : Readings) → opened e [] ≡ some (x, []) → last_weighing (es ++ e ∷ []) ≡ some (x, [])
+pub last-opened : (es : List Entry) (e : Entry) (x : Readings) → opened e [] ≡ some (x, []) → last_weighing (es ++ e ∷ []) ≡ some (x, [])
 unfolding last_weighing or_else changes_of
 last-opened [] e x h = h
 last-opened (f ∷ es) e x h = ap (λ o. or_else o (opened f (changes_of (es ++ e ∷ [])))) (last-opened es e x h)
@@ -34,7 +34,7 @@ changes_other (entry.Change x ∷ es) e h = ap (λ xs. x ∷ xs) (changes_other 
 changes_other (entry.Paired x ∷ es) e h = changes_other es e h
 changes_other (entry.Seat f ∷ es) e h = changes_other es e h
 
-last_other : (es : List Entry) (e : Entry) → changes_of (e ∷ []) ≡ [] → opened e [] ≡ none → last_weighing (es ++ e ∷ []) ≡ last_weighing es
+pub last_other : (es : List Entry) (e : Entry) → changes_of (e ∷ []) ≡ [] → opened e [] ≡ none → last_weighing (es ++ e ∷ []) ≡ last_weighing es
 unfolding last_weighing or_else changes_of
 last_other [] e h k = k
 last_other (f ∷ es) e h k = rw (last_other es e h k, changes_other es e h)
@@ -64,7 +64,7 @@ unfolding or_else
 first_of none f xs x = opened-more f xs x
 first_of (some p) f xs x = refl
 
-last_change : (es : List Entry) (x : Change) → last_weighing (es ++ entry.Change x ∷ []) ≡ map (more x) (last_weighing es)
+pub last_change : (es : List Entry) (x : Change) → last_weighing (es ++ entry.Change x ∷ []) ≡ map (more x) (last_weighing es)
 unfolding last_weighing or_else changes_of
 last_change [] x = refl
 last_change (f ∷ es) x = rw (last_change es x, changes_change es x) (first_of (last_weighing es) f (changes_of es) x)

@@ -14,3 +14,4 @@ pub mod Equal
 pub mod Z
 pub mod Floor
 pub mod Sides
+pub mod Rising

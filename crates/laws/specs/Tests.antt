@@ -52,6 +52,12 @@ and_swapped true true c d = refl
 and_swapped true false c d = sym (and-false c)
 and_swapped false b c d = refl
 
+-- three of which one passes, the first two the other way round
+pub or_swap : (x y z : Bool) → (x || (y || z)) ≡ (y || (x || z))
+or_swap true true z = refl
+or_swap true false z = refl
+or_swap false y z = refl
+
 -- neither of the two passes
 pub or_self : (b : Bool) → (b || b) ≡ b
 or_self true = refl

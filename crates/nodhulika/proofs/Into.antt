@@ -18,8 +18,8 @@ use Rattle.paper.specs.Numbers.{number_of, number_in}
 use Rattle.paper.specs.File.{bytes_of, complement, field_bytes, fields_bytes}
 use Rattle.paper.specs.Answers.{over}
 use Rattle.format.specs.Numbers.{length-bytes}
-use Rattle.front.specs.Front.{placard_for}
-use Rattle.nodhulika.specs.Exported.{answer_bytes, centre_into, counts_over, placard_into}
+use Rattle.front.specs.Front.{equipment_for, placard_for}
+use Rattle.nodhulika.specs.Exported.{answer_bytes, centre_into, count_or, equipment_into, counts_over, placard_into}
 
 -- three numbers of eight bytes
 abbrev pub three_words : ℕ → ℕ → ℕ → List ℕ
@@ -75,3 +75,12 @@ module _ (o : Option (List Entry)) (out answer : List ℕ) where
     pub placard_put : (a : Placard) (last : List ℕ) → ◌≡◌ {A = Given} (Ok a, left) (placard_for o out) → last ≡ over (answer_bytes (pos a.bytes) (pos a.rows) (pos a.blank)) answer → (0, left, last) ≡ placard_into o out answer
     unfolding placard_into counts_over
     placard_put a last e l = rw (le-ltb (length answer) 24 h, ← e, l)
+
+-- ---- equipment
+
+-- by what is answered of the equipment, whatever it is
+pub equipment_by : (o : Option (List Entry)) (arms weights nonlifting : List ℤ) (count : ℕ) (r : Result ℕ Refusal) (xs ys zs : List ℤ) → (r, xs, ys, zs) ≡ equipment_for o arms weights nonlifting
+    → (number_in r, xs, ys, zs, count_or r count) ≡ equipment_into o arms weights nonlifting count
+unfolding equipment_into
+equipment_by o arms weights nonlifting count r xs ys zs e =
+    ap (λ (q : Result ℕ Refusal × List ℤ × List ℤ × List ℤ). (number_in q.0, q.1, q.2, q.3, count_or q.0 count)) e

@@ -1,5 +1,5 @@
 -- The numbers of an answer in a lent buffer: three of eight bytes each, where the call has no number of refusal and the buffer
--- is long enough, else no byte of it changes.
+-- is long enough, else no byte of it changes. And columns of numbers with their count.
 use Rattle.std.specs.Prelude.{true, cond, List, [], ◌∷◌, ℕ, ltb, ℤ, pos, length, Result, Ok, Err}
 use Rattle.std.proofs.Math.Option.{Option}
 use Rattle.paper.specs.declared.Entry.{Entry}
@@ -9,7 +9,7 @@ use Rattle.paper.specs.declared.Refusal.{Refusal}
 use Rattle.paper.specs.Numbers.{number_of, number_in}
 use Rattle.paper.specs.File.{Field, fields_bytes}
 use Rattle.paper.specs.Answers.{over}
-use Rattle.front.specs.Front.{placard_for}
+use Rattle.front.specs.Front.{equipment_for, placard_for}
 
 -- a number of an answer: eight bytes in two's complement, the highest first, as the file has its four
 abbrev pub long : Field
@@ -26,6 +26,17 @@ unfoldable pub centre_into : Result CentreOfGravity Refusal → List ℕ → ℕ
 centre_into (Ok c) answer =
     cond (ltb (length answer) answer_length) (11, answer) (0, over (answer_bytes (pos c.total) c.moment c.centre) answer)
 centre_into (Err r) answer = (number_of r, answer)
+
+-- the count of arms of equipment that is given, else what was there
+abbrev pub count_or : Result ℕ Refusal → ℕ → ℕ
+count_or (Ok n) count = n
+count_or (Err r) count = count
+
+-- equipment by station into three columns, and the count of arms: the number, and all four as they are left
+unfoldable pub equipment_into : Option (List Entry) → List ℤ → List ℤ → List ℤ → ℕ → ℕ × List ℤ × List ℤ × List ℤ × ℕ
+equipment_into o arms weights nonlifting count =
+    let a = equipment_for o arms weights nonlifting in
+    (number_in a.0, a.1, a.2, a.3, count_or a.0 count)
 
 -- bytes, rows and blank rows of a placard that is given, else nothing
 unfoldable pub counts_over : Result Placard Refusal → List ℕ → List ℕ

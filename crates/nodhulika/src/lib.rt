@@ -10,7 +10,7 @@ ghost use Rattle.paper.specs.File.{bytes_of};
 ghost use Rattle.paper.specs.Journal as journal;
 ghost use Rattle.front.specs.Front.{held_in, check_number, centre_for};
 ghost use Rattle.lent.specs.Lent.{lent_file, lent_call, lent_read};
-ghost use Rattle.nodhulika.specs.Exported.{centre_into, placard_into};
+ghost use Rattle.nodhulika.specs.Exported.{centre_into, equipment_into, placard_into};
 
 use paper::{Change, Paired, Refusal, Seat, Sheet, Station, Weighing, number};
 use words::long_of;
@@ -174,6 +174,33 @@ pub fn nodhulika_centre(buffer: &[u8], answer: &mut [u8]) -> u64
     ensures { (result, answer.new) ≡ centre_into (centre_for (held_in buffer.now)) answer.old }
 {
     number(&centre(buffer, answer))
+}
+
+// The equipment by station into three columns, and the count of arms into `count`.
+fn equipment(
+    buffer: &[u8],
+    arms: &mut [i64],
+    weights: &mut [i64],
+    nonlifting: &mut [i64],
+    count: &mut u64,
+) -> Result<(), Refusal>
+    ensures { (number_in result, arms.new, weights.new, nonlifting.new, count.new) ≡ equipment_into (held_in buffer.now) arms.old weights.old nonlifting.old count.old }
+{
+    *count = front::equipment(buffer, arms, weights, nonlifting)? as u64;
+    Ok(())
+}
+
+// Equipment by station: the arms, the net weights and the net non-lifting weights there, and how many arms there are.
+pub fn nodhulika_equipment(
+    buffer: &[u8],
+    arms: &mut [i64],
+    weights: &mut [i64],
+    nonlifting: &mut [i64],
+    count: &mut u64,
+) -> u64
+    ensures { (result, arms.new, weights.new, nonlifting.new, count.new) ≡ equipment_into (held_in buffer.now) arms.old weights.old nonlifting.old count.old }
+{
+    number(&equipment(buffer, arms, weights, nonlifting, count))
 }
 
 // The placard into `out` and its counts into `answer`; where that is too short, the refusal with no byte for the placard.

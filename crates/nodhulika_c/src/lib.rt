@@ -5,7 +5,7 @@ ghost use Rattle.std.specs.Prelude.{◌≡◌, []};
 ghost use Rattle.paper.specs.Journal as journal;
 ghost use Rattle.front.specs.Front.{held_in, check_number, centre_for};
 ghost use Rattle.lent.specs.Lent.{lent_file, lent_call, lent_read};
-ghost use Rattle.nodhulika.specs.Exported.{centre_into, placard_into};
+ghost use Rattle.nodhulika.specs.Exported.{centre_into, equipment_into, placard_into};
 
 // A fresh record at the front of the buffer.
 #[unsafe(no_mangle)]
@@ -137,6 +137,20 @@ pub extern "C" fn nodhulika_centre(buffer: &[u8], answer: &mut [u8]) -> u64
     ensures { (result, answer.new) ≡ centre_into (centre_for (held_in buffer.now)) answer.old }
 {
     nodhulika::nodhulika_centre(buffer, answer)
+}
+
+// Equipment by station: the arms, the net weights and the net non-lifting weights there, and how many arms there are.
+#[unsafe(no_mangle)]
+pub extern "C" fn nodhulika_equipment(
+    buffer: &[u8],
+    arms: &mut [i64],
+    weights: &mut [i64],
+    nonlifting: &mut [i64],
+    count: &mut u64,
+) -> u64
+    ensures { (result, arms.new, weights.new, nonlifting.new, count.new) ≡ equipment_into (held_in buffer.now) arms.old weights.old nonlifting.old count.old }
+{
+    nodhulika::nodhulika_equipment(buffer, arms, weights, nonlifting, count)
 }
 
 // The placard, into `out`, and its bytes, rows and blank rows, into `answer`.

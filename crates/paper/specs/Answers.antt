@@ -1,21 +1,23 @@
 -- What the calls that change no record answer, refusals included, and what they leave of a buffer as lent.
-use Rattle.std.specs.Prelude.{cond, List, ◌++◌, ℕ, eqb, nat_abs, length, drop, Result, Ok, Err}
+use Rattle.std.specs.Prelude.{cond, List, ◌++◌, ℕ, ℤ, eqb, nat_abs, length, drop, Result, Ok, Err}
 use Rattle.std.proofs.Math.Option.{Option, none, some}
 use Rattle.paper.specs.declared.Sheet.{Sheet}
 use Rattle.paper.specs.declared.Seat.{Seat}
 use Rattle.paper.specs.declared.Entry.{Entry}
 use Rattle.paper.specs.declared.CentreOfGravity.{CentreOfGravity}
+use Rattle.paper.specs.declared.Equipment.{Equipment}
 use Rattle.paper.specs.declared.Placard.{Placard}
 use Rattle.paper.specs.declared.Refusal.{Refusal}
 use Rattle.paper.specs.Numbers.{refusal_of}
 use Rattle.paper.specs.Record.{Balance, balance_of, sheet_of, seat_of, ends_of, centre_of}
+use Rattle.paper.specs.Equipment.{fitted, equipment_of, arm_column, weight_column, nonlifting_column}
 use Rattle.paper.specs.Rows.{row_count}
 use Rattle.paper.specs.Placard.{text, text_length, blank_count}
 use Rattle.paper.specs.File.{file_bytes}
-use Rattle.paper.specs.Refusals.{centre_number, placard_number, writing_number}
+use Rattle.paper.specs.Refusals.{centre_number, equipment_number, placard_number, writing_number}
 
--- bytes written into a buffer: those behind them stay
-unfoldable pub over : List ℕ → List ℕ → List ℕ
+-- elements written into a buffer or a column: those behind them stay
+unfoldable pub over : {A : Type 0} → List A → List A → List A
 over xs buffer = xs ++ drop (length xs) buffer
 
 -- ---- centre of gravity
@@ -30,6 +32,20 @@ centre_by n (some b) = Ok (centre_given b)
 
 unfoldable pub centre_answer : List Entry → Result CentreOfGravity Refusal
 centre_answer es = centre_by (centre_number es) (balance_of es)
+
+-- ---- equipment by station
+
+-- the count of arms, and the three columns as they are filled
+unfoldable pub equipment_given : List Equipment → List ℤ → List ℤ → List ℤ → Result ℕ Refusal × List ℤ × List ℤ × List ℤ
+equipment_given es arms weights nonlifting =
+    (Ok (length es), over (arm_column es) arms, over (weight_column es) weights, over (nonlifting_column es) nonlifting)
+
+-- the answer, and the columns as the call leaves them
+unfoldable pub equipment_answer : List Entry → List ℤ → List ℤ → List ℤ → Result ℕ Refusal × List ℤ × List ℤ × List ℤ
+equipment_answer es arms weights nonlifting =
+    let n = equipment_number es (length arms) (length weights) (length nonlifting) in
+    cond (eqb n 0) (equipment_given (equipment_of (fitted es)) arms weights nonlifting)
+    (Err (refusal_of n), arms, weights, nonlifting)
 
 -- ---- placard
 

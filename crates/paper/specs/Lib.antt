@@ -2,6 +2,7 @@
 pub mod Units
 pub mod Numbers
 pub mod Record
+pub mod Equipment
 pub mod Rows
 pub mod Placard
 pub mod File

@@ -11,6 +11,7 @@ use Rattle.paper.specs.declared.Entry.{Entry}
 use Rattle.paper.specs.declared.Entry.TheVariants as entry
 use Rattle.paper.specs.Units.{between, is_weight, is_arm, half_grams}
 use Rattle.paper.specs.Record.{Balance, Readings, alike, paired, total_of, changed, balance_of, sheet_of, is_none, sheet_stands}
+use Rattle.paper.specs.Equipment.{fitted, equipment_of}
 use Rattle.paper.specs.Rows.{row_count}
 use Rattle.paper.specs.Placard.{text_length}
 use Rattle.paper.specs.File.{file_bytes, laid_out}
@@ -143,6 +144,17 @@ undo_number es = first_number (10 when eqb (length es) 0 ∷ [])
 -- centre of gravity: 7 where the list has no weighing
 unfoldable pub centre_number : List Entry → ℕ
 centre_number es = first_number (7 when is_none (balance_of es) ∷ [])
+
+-- one of three columns of such lengths is shorter than the equipment of a list
+unfoldable pub equipment_too_long : List Entry → ℕ → ℕ → ℕ → Bool
+equipment_too_long es i j k =
+    let n = length (equipment_of (fitted es)) in
+    ltb i n || ltb j n || ltb k n
+
+-- equipment by station into columns of such lengths: 7, 11
+unfoldable pub equipment_number : List Entry → ℕ → ℕ → ℕ → ℕ
+equipment_number es i j k =
+    first_number (7 when is_none (balance_of es) ∷ 11 when equipment_too_long es i j k ∷ [])
 
 -- a buffer of n bytes is shorter than the placard of the sheet in force
 unfoldable pub placard_too_long : Option Sheet → ℕ → Bool

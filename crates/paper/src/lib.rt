@@ -215,6 +215,14 @@ pub struct CentreOfGravity {
     pub centre: i64,
 }
 
+// What the changes at one arm come to, in grams: their net weight, and the net of those that are non-lifting parts.
+#[derive(Clone, Copy)]
+pub struct Equipment {
+    pub arm: i64,
+    pub weight: i64,
+    pub nonlifting: i64,
+}
+
 // What the placard call answers beside the buffer.
 #[derive(Clone, Copy, Default)]
 pub struct Placard {

@@ -1,8 +1,8 @@
 #![tactic(auto)]
 
-// What the programs `placard` and `show` do: a record's file on standard input, what a call writes of the record on standard
-// output; or `refused `, the number and a line feed. The programs that are run on the longest file and on the longest placard
-// do the same as `placard`.
+// What the programs `placard`, `show` and `equipment` do: a record's file on standard input, what a call writes of the record on
+// standard output; or `refused `, the number and a line feed. The programs that are run on the longest file and on the longest
+// placard do the same as `placard`.
 use lines::written;
 use paper::Refusal;
 use record::Record;

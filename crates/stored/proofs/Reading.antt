@@ -1,24 +1,25 @@
 -- Entries read in turn: those passed and those to come are the file's, and each step takes one from the latter to the former,
 -- or shows that there is no file. Assumes nothing.
-use mathlib.Core.Path.{◌≡◌, refl, sym, ap, ◌∙◌}
+use mathlib.Core.Path.{◌≡◌, refl, sym, ap, ◌∙◌, subst}
 use mathlib.Core.Bool.{Bool, true, false, cond, ◌&&◌, and_assoc, and-false}
 use mathlib.Core.List.{List, [], ◌∷◌, ◌++◌, append_assoc, append-nil}
 use mathlib.Core.Option.{Option, none, some, map, bind}
-use Prim.Native.Nat.{ℕ, suc, ◌+◌, ◌<◌}
+use Prim.Native.Nat.{ℕ, suc, ◌+◌, ◌-◌, ◌≤◌, ◌<◌}
 use native.Mathlib.Omega.{arith}
-use lib.Dec.{leb, eqb}
+use lib.Dec.{leb}
 use lib.ListN.{length, length-append}
-use borrow.Author.Tests.{eqb-true}
-use Rattle.laws.specs.Tests.{left, right, isnt}
+use Rattle.laws.specs.Tests.{isnt}
 use Rattle.paper.specs.declared.Entry.{Entry}
 use Rattle.paper.specs.File.{kind_of, entry_bytes, take_entry, take_entries, kinds_to, only_kinds}
-use Rattle.paper.specs.Refusals.{entry_number, accepted_after, accepted, only_accepted, file_of}
+use Rattle.paper.specs.Refusals.{entry_number, accepted, only_accepted, file_of}
 use Rattle.format.specs.Entries.{entry_written}
 use Rattle.format.specs.Values.{bytes-behind}
 use Rattle.judge.specs.Standing.{Stands, stands_in}
-use Rattle.judge.proofs.Accepted.{accepted-append, accepted-more, accepted_before}
+use Rattle.judge.proofs.Accepted.{accepted-more, accepted_last, accepted_before}
 use Rattle.reader.specs.Reading.{up_to, take_to}
-use Rattle.stored.specs.Walks.{list_behind, WalkedTo}
+use Rattle.judge.specs.declared.Standing.{Standing}
+use Rattle.reader.specs.declared.Reader.{Reader}
+use Rattle.stored.specs.Walks.{list_behind, WalkedTo, Walked}
 use Rattle.stored.proofs.Parts.{length_in}
 
 -- ---- what reading one entry says
@@ -65,12 +66,6 @@ later_in k es e none h = refl
 later_in k es e (some fs) h = rw (kinds_append k (es ++ e ∷ []) fs, kinds_append k es (e ∷ []), h, and-false (kinds_to k es))
 
 -- nor where one is refused
-last-accepted : (es : List Entry) (e : Entry) → accepted (es ++ e ∷ []) ≡ true → entry_number es e ≡ 0
-unfolding accepted accepted_after
-last-accepted es e h =
-    let k = right (accepted_after [] es) (accepted_after es (e ∷ [])) (sym (accepted-append [] es (e ∷ [])) ∙ h) in
-    eqb-true (entry_number es e) 0 (left (eqb (entry_number es e) 0) true k)
-
 refused_list : (t : Bool) (es : List Entry) → accepted es ≡ false → only_accepted (cond t (some es) none) ≡ none
 refused_list true es h = rw h
 refused_list false es h = refl
@@ -79,7 +74,7 @@ refused_in : (k : ℕ) (es : List Entry) (e : Entry) (o : Option (List Entry)) �
 refused_in k es e none h = refl
 refused_in k es e (some fs) h =
     let all = (es ++ e ∷ []) ++ fs in
-    refused_list (kinds_to k all) all (isnt (accepted all) (λ t. omega (arith, last-accepted es e (accepted_before (es ++ e ∷ []) fs t))))
+    refused_list (kinds_to k all) all (isnt (accepted all) (λ t. omega (arith, accepted_last es e (accepted_before (es ++ e ∷ []) fs t))))
 
 -- ---- the entries passed, and those to come
 
@@ -147,3 +142,15 @@ module _ (xs : List ℕ) (es : List Entry) (k : ℕ) (ys : List ℕ) (o : Stands
       by : (zs : List ℕ) → length zs ≡ 0 → list_behind k es 0 zs ≡ some es
       by [] l = rw (append-nil es, w.kinds, w.fine)
       by (z ∷ zs) l = absurd (omega arith)
+
+-- ---- a walk of n turns, of which k are done
+
+-- the next turn, and the end
+pub coming : (xs : List ℕ) (es : List Entry) (n k : ℕ) (r : Reader) (t : Standing) → k < n → Walked xs es (n - k) r t → Walked xs es (n - (k + 1) + 1) r t
+coming xs es n k r t h w = let e : n - k ≡ n - (k + 1) + 1 = omega arith in subst (λ (m : ℕ). Walked xs es m r t) e w
+
+pub ended : (xs : List ℕ) (es : List Entry) (n k : ℕ) (r : Reader) (t : Standing) → n ≤ k → Walked xs es (n - k) r t → Walked xs es 0 r t
+ended xs es n k r t h w = let e : n - k ≡ 0 = omega arith in subst (λ (m : ℕ). Walked xs es m r t) e w
+
+pub begins : (xs : List ℕ) (n : ℕ) (r : Reader) (t : Standing) → Walked xs [] n r t → Walked xs [] (n - 0) r t
+begins xs n r t w = let e : n ≡ n - 0 = omega arith in subst (λ (m : ℕ). Walked xs [] m r t) e w

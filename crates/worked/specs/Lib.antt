@@ -4,3 +4,4 @@ pub mod Equal
 pub mod Search
 pub mod Table
 pub mod Cases
+pub mod Stations

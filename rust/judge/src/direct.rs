@@ -15,7 +15,8 @@
 //! 4e7, so their product is at most 4e14. The coefficients of P, at most 8e6 and
 //! 1.6e8, times a front step of 5e5 come to 8e13. An `i64` holds 9.2e18.
 
-use crate::paper::{Call, Centre, Change, Counts, Paired, Seat, Sheet, Weighing};
+use crate::paper::{Call, Centre, Change, Columns, Counts, Paired, Seat, Sheet, Weighing};
+use std::collections::BTreeMap;
 
 /// Half grams in a gram.
 pub(crate) const HALVES: i64 = 2;
@@ -38,6 +39,8 @@ const SHEET: usize = 61;
 pub(crate) const CHANGE: usize = 10;
 const PAIRED: usize = 30;
 const SEAT: usize = 9;
+/// The kind byte of a change.
+pub(crate) const CHANGE_KIND: u8 = 3;
 /// Bytes of a line and of one of its fields.
 pub(crate) const LINE: usize = 36;
 pub(crate) const FIELD: usize = 8;
@@ -320,7 +323,7 @@ fn sheet_bytes(s: &Sheet) -> [u8; SHEET] {
 
 fn change_bytes(change: &Change) -> [u8; CHANGE] {
     let mut bytes = [0; CHANGE];
-    bytes[0] = 3;
+    bytes[0] = CHANGE_KIND;
     put(&mut bytes, 1, change.c as u64);
     put(&mut bytes, 5, change.arm as u64);
     bytes[9] = change.flag as u8;
@@ -392,7 +395,7 @@ impl Record {
     /// entry is refused with 9. Inlined, so that a walk has the record in registers.
     #[inline(always)]
     pub(crate) fn take<'a>(&mut self, rest: &'a [u8]) -> Option<&'a [u8]> {
-        match rest.first()? {
+        match *rest.first()? {
             1 => {
                 let (entry, rest) = rest.split_first_chunk()?;
                 self.sums = Some(weigh(&weighing_from(entry)).ok()?);
@@ -405,7 +408,7 @@ impl Record {
                 self.seat = None;
                 Some(rest)
             }
-            3 => {
+            CHANGE_KIND => {
                 let (entry, rest) = rest.split_first_chunk()?;
                 self.sums = Some(change(self.sums, &change_from(entry)).ok()?);
                 Some(rest)
@@ -801,4 +804,56 @@ pub fn placard(buffer: &[u8], out: &mut [u8]) -> Result<Counts, u64> {
     }
     let bytes = rows * LINE;
     Ok(Counts { bytes, rows, blank })
+}
+
+// ---- Equipment by station ----
+
+/// Bytes of an accepted entry of a kind.
+fn length_of(kind: u8) -> usize {
+    match kind {
+        1 => WEIGHING,
+        2 => SHEET,
+        CHANGE_KIND => CHANGE,
+        4 => PAIRED,
+        _ => SEAT,
+    }
+}
+
+/// The columns cut to so many arms; refused with 11.
+pub(crate) fn cut(columns: Columns<'_>, arms: usize) -> Answer<Columns<'_>> {
+    Ok(Columns {
+        arms: columns.arms.get_mut(..arms).ok_or(11u64)?,
+        weights: columns.weights.get_mut(..arms).ok_or(11u64)?,
+        nonlifting: columns.nonlifting.get_mut(..arms).ok_or(11u64)?,
+    })
+}
+
+/// The equipment by station of the record in a buffer: how many arms it has; refused
+/// with 12, 7 or 11. A map keeps the arms apart and in their order.
+pub fn equipment(buffer: &[u8], columns: Columns) -> Answer<usize> {
+    let record = record(buffer)?;
+    record.sums.ok_or(7u64)?;
+    let mut nets: BTreeMap<i64, [i64; 2]> = BTreeMap::new();
+    let mut rest = &buffer[HEAD..record.length];
+    while let Some(kind) = rest.first() {
+        match (*kind, rest.first_chunk()) {
+            (1 | 4, _) => nets.clear(),
+            (CHANGE_KIND, Some(entry)) => {
+                let Change { c, arm, flag } = change_from(entry);
+                let net = nets.entry(arm).or_default();
+                net[0] += c;
+                net[1] += c * flag as i64;
+            }
+            _ => {}
+        }
+        rest = &rest[length_of(*kind)..];
+    }
+    let count = nets.len();
+    let columns = cut(columns, count)?;
+    for (i, (arm, [weight, nonlifting])) in nets.into_iter().enumerate() {
+        columns.arms[i] = arm;
+        columns.weights[i] = weight;
+        columns.nonlifting[i] = nonlifting;
+    }
+    Ok(count)
 }

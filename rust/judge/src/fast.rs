@@ -5,6 +5,8 @@
 //! a seat are those of [`direct`](crate::direct). What is done otherwise:
 //!
 //! - Changes that stand behind one another are read by a loop of their own.
+//! - The equipment is summed up while the entries are read: an arm's place is found by a
+//!   number that is made of it. Only then are the arms sorted, each once.
 //! - A row takes no division. A limit's room changes evenly with the water, so its
 //!   quotient and remainder are carried from row to row, and only those of the
 //!   limits that more water makes tighter.
@@ -13,35 +15,51 @@
 //!   of a front load when it is not the one of the row before.
 
 use crate::direct::{
-    call_by, change, change_from, Answer, Limits, Line, Page, Record, Steps, Sums, CHANGE, FIELD,
-    HALVES, LINE, MOST_ROWS,
+    call_by, change, change_from, cut, Answer, Limits, Line, Page, Record, Steps, Sums, CHANGE,
+    CHANGE_KIND, FIELD, HALVES, LINE, MOST_ROWS,
 };
-use crate::paper::{Call, Centre, Counts};
+use crate::paper::{Call, Centre, Change, Columns, Counts};
 
 // ---- The file ----
 
-/// The kind byte of a change.
-const CHANGE_KIND: u8 = 3;
-
 /// The record at the front of a buffer; refused with 12 where there is none.
 fn record(buffer: &[u8]) -> Answer<Record> {
-    walk(buffer).ok_or(12)
+    walk(buffer, &mut ()).ok_or(12)
+}
+
+/// What hears of the entries as they are walked.
+trait Hears {
+    /// A weighing, plain or paired.
+    fn weighing(&mut self);
+
+    /// A change.
+    fn change(&mut self, change: &Change);
+}
+
+/// Nothing does.
+impl Hears for () {
+    fn weighing(&mut self) {}
+
+    fn change(&mut self, _: &Change) {}
 }
 
 /// Walks the entries; none where the front of the buffer is no file.
-fn walk(buffer: &[u8]) -> Option<Record> {
+fn walk(buffer: &[u8], hears: &mut impl Hears) -> Option<Record> {
     let (mut record, mut rest) = Record::open(buffer)?;
     let mut left = usize::from(record.count);
     while left > 0 {
         record.last = record.length - rest.len();
         if rest.first() == Some(&CHANGE_KIND) {
-            let (sums, run) = take_changes(record.sums?, rest, left)?;
+            let (sums, run) = take_changes(record.sums?, rest, left, hears)?;
             record.sums = Some(sums);
             // No change is whole where the file ends within the first.
             record.last += run.checked_sub(1)? * CHANGE;
             rest = &rest[run * CHANGE..];
             left -= run;
         } else {
+            if let Some(1 | 4) = rest.first() {
+                hears.weighing();
+            }
             rest = record.take(rest)?;
             left -= 1;
         }
@@ -51,14 +69,21 @@ fn walk(buffer: &[u8]) -> Option<Record> {
 
 /// Takes in the whole changes at the front of `rest`, so many at most: the sums
 /// after them, and how many they are.
-fn take_changes(mut sums: Sums, rest: &[u8], most: usize) -> Option<(Sums, usize)> {
+fn take_changes(
+    mut sums: Sums,
+    rest: &[u8],
+    most: usize,
+    hears: &mut impl Hears,
+) -> Option<(Sums, usize)> {
     let (entries, _) = rest.as_chunks::<CHANGE>();
     let entries = &entries[..most.min(entries.len())];
     for (run, entry) in entries.iter().enumerate() {
         if entry[0] != CHANGE_KIND {
             return Some((sums, run));
         }
-        sums = change(Some(sums), &change_from(entry)).ok()?;
+        let entry = change_from(entry);
+        sums = change(Some(sums), &entry).ok()?;
+        hears.change(&entry);
     }
     Some((sums, entries.len()))
 }
@@ -278,10 +303,132 @@ pub fn placard(buffer: &[u8], out: &mut [u8]) -> Result<Counts, u64> {
     Ok(Counts { bytes, rows, blank })
 }
 
+// ---- Equipment by station ----
+
+/// The most changes behind a weighing.
+const MOST_CHANGES: usize = 63;
+
+/// Places for the arms, and one that none has: a power of two.
+const PLACES: usize = MOST_CHANGES + 1;
+
+/// What changes at one arm come to.
+#[derive(Clone, Copy, Default)]
+struct Net {
+    arm: i64,
+    weight: i64,
+    nonlifting: i64,
+}
+
+/// The nets of the changes behind the last weighing that was walked past, the arms in
+/// the order in which they came.
+struct Nets {
+    /// From 1 on.
+    places: [Net; PLACES],
+    count: usize,
+    /// Where an arm has its place, by a number of eight bits that is made of it, or by
+    /// one behind that; 0 where none is.
+    found: [u8; 256],
+}
+
+impl Nets {
+    fn new() -> Nets {
+        Nets {
+            places: [Net::default(); PLACES],
+            count: 0,
+            found: [0; 256],
+        }
+    }
+
+    /// The arms that have a place, the foremost first, each as one number with its
+    /// place at the end.
+    fn in_order<'a>(&self, arms: &'a mut [u64; MOST_CHANGES]) -> &'a [u64] {
+        let arms = &mut arms[..self.count];
+        for ((arm, net), place) in arms.iter_mut().zip(&self.places[1..]).zip(1..) {
+            // No arm is below -2,000,000.
+            *arm = ((net.arm + 2_000_000) as u64) << 8 | place;
+        }
+        arms.sort_unstable();
+        arms
+    }
+}
+
+impl Hears for Nets {
+    fn weighing(&mut self) {
+        if self.count > 0 {
+            *self = Nets::new();
+        }
+    }
+
+    fn change(&mut self, change: &Change) {
+        let Change { c, arm, flag } = *change;
+        let nonlifting = c * flag as i64;
+        let mut at = ((arm as u32).wrapping_mul(0x9e37_79b9) >> 24) as u8;
+        loop {
+            let place = &mut self.found[usize::from(at)];
+            let net = &mut self.places[usize::from(*place) % PLACES];
+            if *place == 0 {
+                self.count += 1;
+                *place = self.count as u8;
+                self.places[self.count % PLACES] = Net {
+                    arm,
+                    weight: c,
+                    nonlifting,
+                };
+                return;
+            }
+            if net.arm == arm {
+                net.weight += c;
+                net.nonlifting += nonlifting;
+                return;
+            }
+            at = at.wrapping_add(1);
+        }
+    }
+}
+
+/// As [`direct::equipment`](crate::direct::equipment).
+pub fn equipment(buffer: &[u8], columns: Columns) -> Result<usize, u64> {
+    let mut nets = Nets::new();
+    let record = walk(buffer, &mut nets).ok_or(12u64)?;
+    record.sums.ok_or(7u64)?;
+    let columns = cut(columns, nets.count)?;
+    let mut arms = [0; MOST_CHANGES];
+    let places = columns
+        .arms
+        .iter_mut()
+        .zip(columns.weights)
+        .zip(columns.nonlifting);
+    for (arm, ((lent, weight), nonlifting)) in nets.in_order(&mut arms).iter().zip(places) {
+        let net = nets.places[*arm as usize % PLACES];
+        (*lent, *weight, *nonlifting) = (net.arm, net.weight, net.nonlifting);
+    }
+    Ok(nets.count)
+}
+
 #[cfg(test)]
 mod tests {
     use super::*;
     use crate::direct;
+
+    /// Arms that share the number they are found by, and more of them than one other.
+    #[test]
+    fn arms_that_are_found_by_one_number() {
+        let number = |arm: i64| (arm as u32).wrapping_mul(0x9e37_79b9) >> 24;
+        let alike = (-2_000_000..=2_000_000).filter(|arm| number(*arm) == 255);
+        let alike: Vec<i64> = alike.step_by(200).take(MOST_CHANGES / 2).collect();
+        let mut nets = Nets::new();
+        for arm in alike.iter().rev().chain(&alike) {
+            let (c, flag) = (*arm | 1, u64::from(*arm < 0));
+            nets.change(&Change { c, arm: *arm, flag });
+        }
+        assert_eq!(nets.count, alike.len());
+        let mut arms = [0; MOST_CHANGES];
+        for (arm, due) in nets.in_order(&mut arms).iter().zip(&alike) {
+            let net = nets.places[*arm as usize % PLACES];
+            assert_eq!((net.arm, net.weight), (*due, 2 * (*due | 1)));
+            assert_eq!(net.nonlifting, net.weight * i64::from(*due < 0));
+        }
+    }
 
     #[test]
     fn every_field_is_the_one_made_digit_by_digit() {

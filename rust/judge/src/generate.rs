@@ -1,9 +1,10 @@
 //! A seeded generator of cases.
 //!
 //! A case is a list of calls with the lengths of the two buffers they are run
-//! on. Eight kinds take turns over the indices, and any index alone reproduces
-//! its case. The gliders are made so that most placards are worth looking at:
-//! the moment is chosen last, so that a limit is met somewhere among the loads.
+//! on and of the columns for the equipment. Eight kinds take turns over the
+//! indices, and any index alone reproduces its case. The gliders are made so
+//! that most placards are worth looking at: the moment is chosen last, so that a
+//! limit is met somewhere among the loads.
 
 use crate::paper::{Call, Change, Journal, Sheet};
 use edges::edge_call;
@@ -11,12 +12,14 @@ use files::{any_version, damaged};
 use glider::{any_glider, lighten, seater, toy, worked_plate, Glider};
 use random::Random;
 use seats::beside_a_limit;
+use stations::{columns, stations_case};
 
 mod edges;
 mod files;
 mod glider;
 mod random;
 mod seats;
+mod stations;
 
 /// Half grams in a gram.
 const HALVES: i64 = 2;
@@ -32,7 +35,7 @@ const LOAD: u64 = 500_000;
 const LONGEST_FILE: usize = 3_910;
 const LONGEST_PLACARD: usize = 9_216;
 
-/// One case: calls on a fresh record, then a placard.
+/// One case: calls on a fresh record, then a placard and the equipment.
 #[derive(Clone, Debug, PartialEq, Eq)]
 pub struct Case {
     /// The kind of case, for a report.
@@ -45,6 +48,8 @@ pub struct Case {
     pub plate: usize,
     /// The byte both buffers are filled with first.
     pub fill: u8,
+    /// Elements of the equipment's columns: arms, weights, non-lifting weights.
+    pub columns: [usize; 3],
 }
 
 impl Case {
@@ -80,12 +85,14 @@ pub fn case(seed: u64, index: u64) -> Case {
     let room = room(&mut random, &calls);
     let plate = plate(&mut random, &calls, room);
     let fill = random.draw() as u8;
+    let columns = columns(&mut random, &calls, room);
     Case {
         kind,
         room,
         calls,
         plate,
         fill,
+        columns,
     }
 }
 
@@ -251,8 +258,11 @@ fn heave(part: Change, i: usize, half: usize) -> Change {
 
 /// Changes up to the 64th and 65th entry: the same part in turn, small ones,
 /// large ones, at times with a seat between them or behind; then taking back, some
-/// of it or all and once more.
+/// of it or all and once more. One list in three is one of changes at few arms.
 fn changes_case(random: &mut Random) -> Vec<Call> {
+    if random.one_in(3) {
+        return stations_case(random);
+    }
     let glider = any_glider(random);
     let mut calls = glider.record(random);
     let some = random.amount(5, 60) as usize;

@@ -9,6 +9,8 @@
 //! stay", "Nobody in the seat", "Adjustable seat backs") were added from the cards'
 //! words, but by someone who had read the definitions that the library is proved
 //! against: of them this is a second reckoning rather than a second reading.
+//! Card 5 ("Equipment by station") was added from its words before there were
+//! definitions of it to be read.
 //!
 //! - [`paper`] follows the papers line by line, with plain loops and `i128`.
 //!   It is slow and meant to be compared with the paper by eye.

@@ -1,4 +1,4 @@
-//! Paper 01 by plain loops, and cards 1, 2 and 4 of paper 02 with it.
+//! Paper 01 by plain loops, and cards 1, 2, 4 and 5 of paper 02 with it.
 //!
 //! Every rule stands here as the paper words it, under the paper's heading, and
 //! every number is an `i128`, so that no argument can overflow a test. Nothing
@@ -16,6 +16,10 @@
 //! front load lies between. They count in the place of the sheet's own front arm
 //! until another sheet or seat comes, and a load keeps the limits where it does so at
 //! each whole arm from the one end to the other.
+//!
+//! Card 5, "equipment by station": "for the changes behind the last weighing, fill
+//! lent columns with each arm once, foremost first, and the net weight and net
+//! non-lifting weight there in grams, a net of nought included".
 //!
 //! Readings of the papers, where their words leave room:
 //!
@@ -42,6 +46,9 @@
 //!   Weighings and changes leave it in force. A sheet behind it ends it, even an equal
 //!   one, and brings it back when it is taken back itself.
 //! - A file of version 1 has no pairs and no seats; there is no version but 1 and 2.
+//! - The equipment goes into three columns with lengths of their own. Where any of
+//!   them is shorter than there are arms it is refused with 11, and none is written.
+//!   Sheets and seats between the changes make no difference.
 
 // Half grams in a gram.
 const HALVES: i128 = 2;
@@ -229,6 +236,17 @@ pub struct Counts {
     pub rows: usize,
     /// Rows without a front load that keeps every limit.
     pub blank: usize,
+}
+
+/// Columns that are lent for the equipment by station: how many elements each has is
+/// its own.
+pub struct Columns<'a> {
+    /// Where the arms go.
+    pub arms: &'a mut [i64],
+    /// Where the net weight at each arm goes.
+    pub weights: &'a mut [i64],
+    /// Where the net non-lifting weight at each arm goes.
+    pub nonlifting: &'a mut [i64],
 }
 
 /// The paper's journal: the accepted entries in order.
@@ -735,6 +753,85 @@ impl Journal {
         let (rears, waters) = row_counts(&self.sheet()?);
         Some((rears * waters) as usize * LINE)
     }
+}
+
+// ---- Equipment by station ----
+
+impl Journal {
+    /// "The changes behind the last weighing"; none where there is no weighing.
+    fn changes(&self) -> Option<Vec<Change>> {
+        let mut changes: Option<Vec<Change>> = None;
+        for entry in &self.entries {
+            match entry {
+                Entry::Weighing(_) | Entry::Paired(_) => changes = Some(Vec::new()),
+                Entry::Change(change) => {
+                    if let Some(changes) = &mut changes {
+                        changes.push(*change);
+                    }
+                }
+                Entry::Sheet(_) | Entry::Seat(_) => {}
+            }
+        }
+        changes
+    }
+
+    /// The equipment by station, in grams: how many arms there are; refused with 7 or
+    /// 11. Elements behind the last arm stay.
+    pub fn equipment(&self, columns: Columns) -> Result<usize, u64> {
+        let changes = self.changes().ok_or(UNWEIGHED)?;
+        let arms = each_arm_once(&changes);
+        let Columns {
+            arms: lent,
+            weights,
+            nonlifting,
+        } = columns;
+        let shortest = lent.len().min(weights.len()).min(nonlifting.len());
+        if shortest < arms.len() {
+            return Err(SHORT);
+        }
+        for (i, arm) in arms.iter().enumerate() {
+            lent[i] = *arm as i64;
+            weights[i] = net(&changes, *arm, |_| true) as i64;
+            nonlifting[i] = net(&changes, *arm, |change| change.flag == 1) as i64;
+        }
+        Ok(arms.len())
+    }
+
+    /// Arms of the equipment, where a weighing stands.
+    pub(crate) fn stations(&self) -> Option<usize> {
+        Some(each_arm_once(&self.changes()?).len())
+    }
+}
+
+/// "Each arm once, foremost first": the smallest of all, and each time the smallest of
+/// those behind the one before.
+fn each_arm_once(changes: &[Change]) -> Vec<i128> {
+    let mut arms: Vec<i128> = Vec::new();
+    loop {
+        let mut next = None;
+        for change in changes {
+            let arm = i128::from(change.arm);
+            let behind = arms.last().is_none_or(|last| *last < arm);
+            if behind && next.is_none_or(|next| arm < next) {
+                next = Some(arm);
+            }
+        }
+        match next {
+            Some(arm) => arms.push(arm),
+            None => return arms,
+        }
+    }
+}
+
+/// The sum of c over those of the changes at an arm that count.
+fn net(changes: &[Change], arm: i128, counts: impl Fn(&Change) -> bool) -> i128 {
+    let mut sum = 0;
+    for change in changes {
+        if i128::from(change.arm) == arm && counts(change) {
+            sum += i128::from(change.c);
+        }
+    }
+    sum
 }
 
 // ---- The file ----

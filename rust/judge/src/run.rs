@@ -5,7 +5,8 @@
 use crate::direct;
 use crate::fast;
 use crate::generate::Case;
-use crate::paper::{Call, Centre, Change, Counts, Journal, Paired, Seat, Sheet, Weighing};
+use crate::paper::{Call, Centre, Change, Columns, Counts, Journal};
+use crate::paper::{Paired, Seat, Sheet, Weighing};
 use std::marker::PhantomData;
 
 /// A placard of more tests of the limits than this takes plain loops too long.
@@ -40,6 +41,10 @@ pub trait Lent {
     /// The placard's counts, its lines in the front of `out`, or the number of
     /// its refusal.
     fn placard(&self, out: &mut [u8]) -> Result<Counts, u64>;
+
+    /// How many arms the equipment has, filled in from the columns' front, or the
+    /// number of its refusal.
+    fn equipment(&self, columns: Columns) -> Result<usize, u64>;
 }
 
 // ---- By the paper ----
@@ -113,6 +118,10 @@ impl Lent for Paper {
     fn placard(&self, out: &mut [u8]) -> Result<Counts, u64> {
         self.journal.as_ref().ok_or(FILE)?.placard(out)
     }
+
+    fn equipment(&self, columns: Columns) -> Result<usize, u64> {
+        self.journal.as_ref().ok_or(FILE)?.equipment(columns)
+    }
 }
 
 /// The first 4 + L bytes of a buffer, L being the number in the first four,
@@ -140,6 +149,9 @@ pub trait Calls {
 
     /// The placard.
     fn placard(buffer: &[u8], out: &mut [u8]) -> Result<Counts, u64>;
+
+    /// The equipment by station.
+    fn equipment(buffer: &[u8], columns: Columns) -> Result<usize, u64>;
 }
 
 /// The direct functions.
@@ -164,6 +176,10 @@ impl Calls for Direct {
 
     fn placard(buffer: &[u8], out: &mut [u8]) -> Result<Counts, u64> {
         direct::placard(buffer, out)
+    }
+
+    fn equipment(buffer: &[u8], columns: Columns) -> Result<usize, u64> {
+        direct::equipment(buffer, columns)
     }
 }
 
@@ -190,39 +206,45 @@ impl Calls for Fast {
     fn placard(buffer: &[u8], out: &mut [u8]) -> Result<Counts, u64> {
         fast::placard(buffer, out)
     }
+
+    fn equipment(buffer: &[u8], columns: Columns) -> Result<usize, u64> {
+        fast::equipment(buffer, columns)
+    }
 }
 
-/// Bytes of a guard: an odd number, so that a buffer between two is at no even
-/// address.
+/// Elements of a guard: an odd number, so that a buffer of bytes between two is at no
+/// even address.
 const GUARD: usize = 29;
 const GUARD_BYTE: u8 = 0x5c;
 
-/// A buffer between two guards, by which a write beside it is seen.
-pub struct Guarded(Vec<u8>);
+/// A buffer or a column between two guards, by which a write beside it is seen.
+#[derive(Clone, Debug, PartialEq, Eq)]
+pub struct Guarded<T = u8>(Vec<T>);
 
-impl Guarded {
-    /// A copy of a buffer.
-    pub fn new(buffer: &[u8]) -> Guarded {
-        let guard = [GUARD_BYTE; GUARD];
+impl<T: Copy + PartialEq + From<u8>> Guarded<T> {
+    /// A copy of a buffer or a column.
+    pub fn new(buffer: &[T]) -> Guarded<T> {
+        let guard = [T::from(GUARD_BYTE); GUARD];
         Guarded([&guard, buffer, &guard].concat())
     }
 
-    /// The buffer.
-    pub fn inside(&self) -> &[u8] {
+    /// What stands between the guards.
+    pub fn inside(&self) -> &[T] {
         &self.0[GUARD..self.0.len() - GUARD]
     }
 
-    /// The buffer, to be written.
-    pub fn inside_mut(&mut self) -> &mut [u8] {
+    /// The same, to be written.
+    pub fn inside_mut(&mut self) -> &mut [T] {
         let end = self.0.len() - GUARD;
         &mut self.0[GUARD..end]
     }
 
-    /// Whether nothing was written beside the buffer.
+    /// Whether nothing was written beside it.
     pub fn holds(&self) -> bool {
         let (front, rest) = self.0.split_at(GUARD);
         let behind = &rest[rest.len() - GUARD..];
-        front.iter().chain(behind).all(|byte| *byte == GUARD_BYTE)
+        let guard = T::from(GUARD_BYTE);
+        front.iter().chain(behind).all(|element| *element == guard)
     }
 }
 
@@ -270,11 +292,16 @@ impl<C: Calls> Lent for By<C> {
     fn placard(&self, out: &mut [u8]) -> Result<Counts, u64> {
         C::placard(self.buffer(), out)
     }
+
+    fn equipment(&self, columns: Columns) -> Result<usize, u64> {
+        C::equipment(self.buffer(), columns)
+    }
 }
 
 // ---- Running ----
 
-/// What is run: a record's buffer, calls on it, and a placard's buffer.
+/// What is run: a record's buffer, calls on it, a placard's buffer, and columns for the
+/// equipment.
 #[derive(Clone, Debug)]
 pub struct Trial<'a> {
     /// The record's buffer as it is lent.
@@ -285,7 +312,12 @@ pub struct Trial<'a> {
     pub calls: &'a [Call],
     /// The placard's buffer as it is lent.
     pub plate: Vec<u8>,
+    /// Elements of the equipment's columns.
+    pub columns: [usize; 3],
 }
+
+/// What every element of a column is before the call: no arm and no weight.
+pub const UNWRITTEN: i64 = -1_000_000_007;
 
 /// All that can be seen of the calls.
 #[derive(Clone, Debug, PartialEq, Eq)]
@@ -309,6 +341,18 @@ pub struct Plate {
     pub answer: Result<Counts, u64>,
     /// Its buffer afterwards.
     pub bytes: Vec<u8>,
+    /// The record's buffer afterwards.
+    pub record: Vec<u8>,
+}
+
+/// All that can be seen of the equipment.
+#[derive(Clone, Debug, PartialEq, Eq)]
+pub struct Inventory {
+    /// How many arms it has, or the number of its refusal.
+    pub answer: Result<usize, u64>,
+    /// Its columns afterwards, and what is beside them: arms, net weights and net
+    /// non-lifting weights.
+    pub columns: [Guarded<i64>; 3],
     /// The record's buffer afterwards.
     pub record: Vec<u8>,
 }
@@ -403,6 +447,7 @@ impl Trial<'_> {
             fresh: true,
             calls: &case.calls,
             plate: vec![case.fill; case.plate],
+            columns: case.columns,
         }
     }
 
@@ -422,6 +467,7 @@ impl Trial<'_> {
                 fresh: false,
                 calls,
                 plate: vec![case.fill; LONGEST_PLACARD],
+                columns: case.columns,
             })
             .collect()
     }
@@ -453,6 +499,28 @@ impl Trial<'_> {
         Plate {
             answer,
             bytes,
+            record: lent.buffer().to_vec(),
+        }
+    }
+
+    /// The columns as they are lent.
+    pub fn lent_columns(&self) -> [Guarded<i64>; 3] {
+        self.columns
+            .map(|length| Guarded::new(&vec![UNWRITTEN; length]))
+    }
+
+    /// Asks for the equipment of a record in the end.
+    pub fn equipment(&self, lent: &impl Lent) -> Inventory {
+        let mut columns = self.lent_columns();
+        let [arms, weights, nonlifting] = &mut columns;
+        let answer = lent.equipment(Columns {
+            arms: arms.inside_mut(),
+            weights: weights.inside_mut(),
+            nonlifting: nonlifting.inside_mut(),
+        });
+        Inventory {
+            answer,
+            columns,
             record: lent.buffer().to_vec(),
         }
     }

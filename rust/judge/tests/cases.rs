@@ -1,5 +1,5 @@
 //! The paper's plates A to K, in half grams, the figures of document 000 that it
-//! quotes, what it says to be run, and what cards 1, 2 and 4 of paper 02 add.
+//! quotes, what it says to be run, and what cards 1, 2, 4 and 5 of paper 02 add.
 
 mod common;
 
@@ -519,6 +519,104 @@ fn files_with_a_seat() {
     let mut reversed = new;
     reversed[68..72].fill(0x01);
     assert_eq!(sides.call(&Call::Read(reversed)), 12);
+}
+
+/// Each arm once, foremost first, by both flags, a net of nought included; sheets and
+/// seats between make no difference.
+#[test]
+fn equipment_by_station() {
+    let mut sides = Sides::new();
+    sides.accept(&Call::Install(ASTIR));
+    sides.accept(&astir());
+    assert_eq!(sides.equipment(), Ok(vec![]));
+    for (call, equipment) in [
+        (change(4_500, -100_000, 1), vec![[-100_000, 4_500, 4_500]]),
+        (
+            change(700, 12_000, 0),
+            vec![[-100_000, 4_500, 4_500], [12_000, 700, 0]],
+        ),
+        (
+            change(-1_500, -100_000, 0),
+            vec![[-100_000, 3_000, 4_500], [12_000, 700, 0]],
+        ),
+        (
+            seat(-50_000, -45_000),
+            vec![[-100_000, 3_000, 4_500], [12_000, 700, 0]],
+        ),
+        (
+            change(-700, 12_000, 0),
+            vec![[-100_000, 3_000, 4_500], [12_000, 0, 0]],
+        ),
+        (
+            Call::Install(ASTIR),
+            vec![[-100_000, 3_000, 4_500], [12_000, 0, 0]],
+        ),
+        (
+            change(-800, -2_000, 1),
+            vec![
+                [-100_000, 3_000, 4_500],
+                [-2_000, -800, -800],
+                [12_000, 0, 0],
+            ],
+        ),
+    ] {
+        sides.accept(&call);
+        assert_eq!(sides.equipment(), Ok(equipment), "{call:?}");
+    }
+}
+
+/// Only the changes behind the last weighing, plain or paired; taken back, it gives way
+/// to the older one and its changes. A pair leaves whole grams.
+#[test]
+fn equipment_behind_the_last_weighing() {
+    let mut sides = Sides::new();
+    sides.accept(&astir());
+    sides.accept(&change(300, 7, 0));
+    let before = Ok(vec![[7, 300, 0]]);
+    assert_eq!(sides.equipment(), before);
+    for weighing in [astir(), pair(3, [150_000, 0], [150_001, 1], (0, 1, 9))] {
+        sides.accept(&weighing);
+        assert_eq!(sides.equipment(), Ok(vec![]));
+        sides.accept(&change(1, -7, 1));
+        assert_eq!(sides.equipment(), Ok(vec![[-7, 1, 1]]));
+        sides.accept(&Call::Undo);
+        sides.accept(&Call::Undo);
+        assert_eq!(sides.equipment(), before);
+    }
+}
+
+/// As many arms as there can be, given in falling order.
+#[test]
+fn equipment_at_63_arms() {
+    let mut sides = Sides::new();
+    sides.accept(&astir());
+    for i in 0..63 {
+        let arm = 2_000_000 - 64_516 * i;
+        sides.accept(&change(10 + i, arm, (i % 2) as u64));
+    }
+    let due: Vec<[i64; 3]> = (0..63)
+        .rev()
+        .map(|i| [2_000_000 - 64_516 * i, 10 + i, i % 2 * (10 + i)])
+        .collect();
+    assert_eq!(sides.equipment(), Ok(due));
+    assert_eq!(sides.equipment_into([63, 62, 63]), Err(11));
+    assert!(sides.equipment_into([63; 3]).is_ok());
+}
+
+/// A heavy part that goes in and out: the largest nets of a list of three changes.
+#[test]
+fn equipment_of_the_greatest_weights() {
+    let mut sides = Sides::new();
+    sides.accept(&weigh(1, 1, 0, 0, 1, 0));
+    sides.accept(&change(1_999_999, -2_000_000, 1));
+    sides.accept(&change(-1_999_999, 2_000_000, 1));
+    let far = [
+        [-2_000_000, 1_999_999, 1_999_999],
+        [2_000_000, -1_999_999, -1_999_999],
+    ];
+    assert_eq!(sides.equipment(), Ok(far.to_vec()));
+    sides.accept(&change(1_999_999, -2_000_000, 0));
+    assert_eq!(sides.equipment().unwrap()[0][1..], [3_999_998, 1_999_999]);
 }
 
 #[test]

@@ -1,19 +1,24 @@
 //! The direct and the fast functions against the paper on generated cases.
 
 use judge::generate::{case, Case};
-use judge::paper::{Call, Entry, Journal, Seat, Sheet};
-use judge::run::{Answers, By, Direct, Fast, Paper, Plate, Trial, WORK};
+use judge::paper::{Call, Columns, Entry, Journal, Seat, Sheet};
+use judge::run::{front_file, Answers, By, Direct, Fast, Guarded, Inventory, Lent, Paper, Plate};
+use judge::run::{Trial, WORK};
 
 const CASES: u64 = 20_000;
 const SEED: u64 = 1;
 
-/// How often each number was given by a call, a centre or a placard.
+/// How often each number was given by a call, a centre, a placard or the equipment.
 #[derive(Default)]
 struct Numbers([u64; 13]);
 
 impl Numbers {
-    fn add(&mut self, answers: &Answers, plate: &Plate) {
-        let last = [answers.centre.err(), plate.answer.err()];
+    fn add(&mut self, answers: &Answers, plate: &Plate, inventory: &Inventory) {
+        let last = [
+            answers.centre.err(),
+            plate.answer.err(),
+            inventory.answer.err(),
+        ];
         let last = last.into_iter().map(|number| number.unwrap_or(0));
         for number in answers.numbers.iter().copied().chain(last) {
             self.0[number as usize] += 1;
@@ -93,6 +98,55 @@ impl Card4 {
     }
 }
 
+/// Equipment of two arms and more, of 63, with more changes than arms, with a net of
+/// nought, with one that is negative, with a part of both flags, and with a column one
+/// element too short.
+#[derive(Default)]
+struct Card5([u64; 7]);
+
+impl Card5 {
+    fn add(&mut self, journal: &Journal, inventory: &Inventory) {
+        let columns = inventory.columns.each_ref().map(Guarded::inside);
+        let shortest = columns.map(<[i64]>::len).into_iter().min().unwrap();
+        let Ok(count) = inventory.answer else {
+            let missing = stations_of(journal).is_some_and(|arms| arms == shortest + 1);
+            self.0[6] += u64::from(missing);
+            return;
+        };
+        let [_, weights, nonlifting] = columns.map(|column| &column[..count]);
+        let any = |of: &dyn Fn(i64, i64) -> bool| {
+            let mut nets = weights.iter().zip(nonlifting);
+            u64::from(nets.any(|(weight, part)| of(*weight, *part)))
+        };
+        self.0[0] += u64::from(count >= 2);
+        self.0[1] += u64::from(count == 63);
+        self.0[2] += u64::from(count < changes_of(journal));
+        self.0[3] += any(&|weight, _| weight == 0);
+        self.0[4] += any(&|weight, _| weight < 0);
+        self.0[5] += any(&|weight, part| part != 0 && part != weight);
+    }
+}
+
+/// Changes behind the last weighing.
+fn changes_of(journal: &Journal) -> usize {
+    let entries = journal.entries.iter().rev();
+    entries
+        .take_while(|entry| !matches!(entry, Entry::Weighing(_) | Entry::Paired(_)))
+        .filter(|entry| matches!(entry, Entry::Change(_)))
+        .count()
+}
+
+/// Arms of the equipment, where something was weighed.
+fn stations_of(journal: &Journal) -> Option<usize> {
+    let [mut arms, mut weights, mut nonlifting] = [[0; 63]; 3];
+    let columns = Columns {
+        arms: &mut arms,
+        weights: &mut weights,
+        nonlifting: &mut nonlifting,
+    };
+    journal.equipment(columns).ok()
+}
+
 /// The lines of a placard if its seat had one arm.
 fn plate_at(journal: &Journal, arm: i64) -> Vec<u8> {
     let mut journal = journal.clone();
@@ -110,19 +164,23 @@ fn plate_at(journal: &Journal, arm: i64) -> Vec<u8> {
 
 /// What the paper, the direct functions and the fast ones all answer, and the
 /// paper's record; the placard is none where plain loops would take too long.
-fn same(trial: &Trial, case: &Case) -> (Paper, Answers, Option<Plate>) {
+fn same(trial: &Trial, case: &Case) -> (Paper, Answers, Inventory, Option<Plate>) {
     let (paper, expected) = trial.run::<Paper>();
     let (direct, given) = trial.run::<By<Direct>>();
     assert_eq!(given, expected, "direct {case:?}");
     let (fast, given) = trial.run::<By<Fast>>();
     assert_eq!(given, expected, "fast {case:?}");
+    let inventory = trial.equipment(&paper);
+    assert!(inventory.columns.iter().all(Guarded::holds));
+    assert_eq!(trial.equipment(&direct), inventory, "direct {case:?}");
+    assert_eq!(trial.equipment(&fast), inventory, "fast {case:?}");
     let plate = trial.placard(&direct);
     assert_eq!(trial.placard(&fast), plate, "{case:?}");
     if paper.work() > WORK {
-        return (paper, expected, None);
+        return (paper, expected, inventory, None);
     }
     assert_eq!(trial.placard(&paper), plate, "{case:?}");
-    (paper, expected, Some(plate))
+    (paper, expected, inventory, Some(plate))
 }
 
 fn assert_all_over(least: u64, counts: &[u64]) {
@@ -133,14 +191,17 @@ fn assert_all_over(least: u64, counts: &[u64]) {
 fn all_answer_as_the_paper_does() {
     let mut numbers = Numbers::default();
     let (mut card_1, mut card_2) = (Card1::default(), Card2::default());
-    let mut card_4 = Card4::default();
+    let (mut card_4, mut card_5) = (Card4::default(), Card5::default());
     let (mut compared, mut rows, mut blank) = (0, 0, 0);
     for index in 0..CASES {
         let case = case(SEED, index);
-        let (paper, answers, Some(plate)) = same(&Trial::of(&case), &case) else {
+        let (paper, answers, inventory, Some(plate)) = same(&Trial::of(&case), &case) else {
             continue;
         };
-        numbers.add(&answers, &plate);
+        numbers.add(&answers, &plate, &inventory);
+        if let Some(journal) = &paper.journal {
+            card_5.add(journal, &inventory);
+        }
         card_1.add(&case.calls, &answers);
         card_4.add(&case.calls, &answers);
         compared += 1;
@@ -159,6 +220,7 @@ fn all_answer_as_the_paper_does() {
     assert_all_over(5_000, &card_2.0);
     assert_all_over(500, &card_4.calls);
     assert_all_over(500, &card_4.ends);
+    assert_all_over(50, &card_5.0);
     assert!(rows > 300_000 && blank > rows / 5 && blank < rows / 2);
 }
 
@@ -172,4 +234,68 @@ fn files_lent_as_they_are() {
             same(&trial, &case);
         }
     }
+}
+
+/// The call that adds an entry.
+fn call_of(entry: &Entry) -> Call {
+    match *entry {
+        Entry::Weighing(w) => Call::Weigh(w),
+        Entry::Sheet(s) => Call::Install(s),
+        Entry::Change(c) => Call::Change(c),
+        Entry::Paired(x) => Call::Pair(x),
+        Entry::Seat(s) => Call::Seat(s),
+    }
+}
+
+/// Weighings, sheets and seats in the same order, and from each weighing to the next or
+/// the end the same changes the other way round, behind the sheets and seats that they
+/// stood between; none where one of them is refused there.
+fn turned(journal: &Journal) -> Option<Journal> {
+    let is_weighing = |entry: &Entry| matches!(entry, Entry::Weighing(_) | Entry::Paired(_));
+    let is_change = |entry: &&Entry| matches!(entry, Entry::Change(_));
+    let mut turned = Journal::new();
+    for run in journal.entries.chunk_by(|_, next| !is_weighing(next)) {
+        let (changes, others): (Vec<&Entry>, Vec<&Entry>) = run.iter().partition(is_change);
+        for entry in others.into_iter().chain(changes.into_iter().rev()) {
+            if turned.call(&call_of(entry)) != 0 {
+                return None;
+            }
+        }
+    }
+    Some(turned)
+}
+
+/// "Two records with equal weighing, sheet and seat entries in equal order, and from each
+/// weighing to the next or the end the same changes in any order, all accepted, print the
+/// same plate", and have the same equipment.
+#[test]
+fn the_order_of_changes_makes_no_difference() {
+    let (mut moved, mut plates) = (0, 0);
+    for index in 0..CASES {
+        let case = case(SEED + 2, index);
+        let trial = Trial {
+            columns: [63; 3],
+            plate: vec![0; 9_216],
+            ..Trial::of(&case)
+        };
+        let (_, answers) = trial.run::<By<Fast>>();
+        let last = answers.buffers.last().unwrap();
+        let Some(journal) = front_file(last).and_then(|file| Journal::read(file).ok()) else {
+            continue;
+        };
+        let Some(other) = turned(&journal).filter(|other| *other != journal) else {
+            continue;
+        };
+        moved += 1;
+        let [one, other] = [journal, other].map(|journal| By::<Fast>::found(&journal.file()));
+        assert_eq!(one.centre(), other.centre(), "{case:?}");
+        let [one_plate, other_plate] = [&one, &other].map(|lent| trial.placard(lent));
+        assert_eq!(one_plate.answer, other_plate.answer, "{case:?}");
+        assert_eq!(one_plate.bytes, other_plate.bytes, "{case:?}");
+        plates += u64::from(one_plate.answer.is_ok());
+        let [one, other] = [&one, &other].map(|lent| trial.equipment(lent));
+        assert_eq!(one.answer, other.answer, "{case:?}");
+        assert_eq!(one.columns, other.columns, "{case:?}");
+    }
+    assert!(moved > 3_000 && plates > 2_500, "{moved} {plates}");
 }

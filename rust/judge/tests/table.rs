@@ -4,7 +4,7 @@
 mod common;
 
 use common::Sides;
-use judge::paper::{Call, Change, Paired, Seat, Sheet, Weighing};
+use judge::paper::{Call, Change, Columns, Paired, Seat, Sheet, Weighing};
 use judge::run::{Calls, Direct, Fast};
 
 const WEIGHING: Weighing = Weighing {
@@ -504,6 +504,36 @@ fn placard_and_centre_need_their_entries() {
     assert_eq!(sides.placard(0), Err(11));
 }
 
+/// The equipment's order is 7, 11; each column counts.
+#[test]
+fn equipment_is_refused_in_the_order_7_11() {
+    let mut sides = Sides::new();
+    assert_eq!(sides.equipment_into([0; 3]), Err(7));
+    sides.accept(&Call::Install(SHEET));
+    assert_eq!(sides.equipment_into([70; 3]), Err(7));
+    sides.accept(&Call::Weigh(WEIGHING));
+    let nothing = Ok([vec![], vec![], vec![]]);
+    assert_eq!(sides.equipment_into([0; 3]), nothing);
+    assert_eq!(sides.equipment_into([2, 0, 1]), nothing);
+    sides.accept(&Call::Change(CHANGE));
+    for arm in [CHANGE.arm, 7] {
+        sides.accept(&Call::Change(Change { arm, ..CHANGE }));
+    }
+    for (lengths, accepted) in [
+        ([0, 0, 0], false),
+        ([1, 2, 2], false),
+        ([2, 1, 2], false),
+        ([2, 2, 1], false),
+        ([1, 9, 9], false),
+        ([2, 2, 2], true),
+        ([3, 2, 70], true),
+    ] {
+        let answer = sides.equipment_into(lengths);
+        assert_eq!(answer.is_ok(), accepted, "{lengths:?}");
+        assert_eq!(answer.err().unwrap_or(11), 11);
+    }
+}
+
 /// "G, M and n are those of the last weighing in the list and the changes
 /// behind it", also after taking back.
 #[test]
@@ -534,17 +564,29 @@ fn a_lent_buffer() {
     lend_a_buffer::<Fast>();
 }
 
+/// Columns of no element.
+fn no_columns() -> Columns<'static> {
+    Columns {
+        arms: &mut [],
+        weights: &mut [],
+        nonlifting: &mut [],
+    }
+}
+
 fn lend_a_buffer<C: Calls>() {
     let mut tiny = [9; 5];
     assert_eq!(C::fresh(&mut tiny), 11);
     assert_eq!(C::check(&tiny), 12);
     assert_eq!(C::call(&mut tiny, &Call::Undo), 12);
+    assert_eq!(C::equipment(&tiny, no_columns()), Err(12));
     assert_eq!(tiny, [9; 5]);
     // Just enough for a weighing; nothing fits behind it, and what the call
     // itself refuses comes before that.
     let mut buffer = [9; 28];
     assert_eq!(C::fresh(&mut buffer), 0);
+    assert_eq!(C::equipment(&buffer, no_columns()), Err(7));
     assert_eq!(C::call(&mut buffer, &Call::Weigh(WEIGHING)), 0);
+    assert_eq!(C::equipment(&buffer, no_columns()), Ok(0));
     let written = buffer;
     assert_eq!(C::call(&mut buffer, &Call::Change(CHANGE)), 11);
     let bad = Change { flag: 2, ..CHANGE };

@@ -221,6 +221,18 @@ pub struct CentreOfGravity {
     pub centre: i64,
 }
 
+/// What the changes behind the last weighing come to at one arm, in whole grams.
+#[derive(Clone, Copy, Debug, PartialEq, Eq, Hash)]
+pub struct Equipment {
+    /// The arm, in hundredths of a millimetre, positive aft.
+    pub arm: i64,
+    /// The net weight: the sum of c over the changes at that arm. It is 0 where what
+    /// was fitted was taken out again, and negative where more was taken out.
+    pub weight: i64,
+    /// The net non-lifting weight: the same over the non-lifting parts alone.
+    pub nonlifting: i64,
+}
+
 /// What a placard comes to.
 #[derive(Clone, Copy, Debug, PartialEq, Eq, Hash)]
 pub struct Counts {

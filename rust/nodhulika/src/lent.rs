@@ -10,7 +10,7 @@
 //! the record leaves one of version 2.
 //!
 //! With each call stand its refusals, in the order in which they are looked for.
-//! A refusal changes no byte of any buffer.
+//! A refusal changes no byte of any buffer and no element of any column.
 //!
 //! ```
 //! use nodhulika::{lent, Refusal, Weighing};
@@ -176,6 +176,59 @@ pub fn placard(buffer: &[u8], out: &mut [u8]) -> Result<Counts, Refusal> {
     // None is more than LONGEST_PLACARD, so none is cut.
     let [bytes, rows, blank] = numbers(&answer).map(|number| number as usize);
     Ok(Counts { bytes, rows, blank })
+}
+
+/// The equipment by station, into the front of three columns: how many arms there are.
+///
+/// The changes behind the last weighing, plain or paired, come to each arm once, the
+/// foremost first, into `arms`, the net weight there into `weights`, and the net
+/// non-lifting weight there into `nonlifting`, both in whole grams and both 0 where
+/// what was fitted was taken out again. Data sheets and seats between the changes make
+/// no difference. Elements behind the last arm stay. Columns of
+/// [`MOST_ARMS`](crate::MOST_ARMS) elements hold the equipment of every record; where
+/// there is no change, empty ones will do.
+///
+/// ```
+/// use nodhulika::{lent, Change, Refusal, Weighing, LONGEST_FILE, MOST_ARMS};
+///
+/// let mut buffer = [0; LONGEST_FILE];
+/// lent::fresh(&mut buffer)?;
+/// lent::weigh(&mut buffer, &Weighing {
+///     m: Weighing::WHEEL_AND_TAIL,
+///     p: 288_000,
+///     q: 0,
+///     a: 63_334,
+///     b: 500_000,
+///     n: 140_000,
+/// })?;
+/// // An instrument in the panel, and a battery a metre ahead of the datum.
+/// lent::change(&mut buffer, &Change { c: 340, arm: -61_000, flag: Change::NON_LIFTING })?;
+/// lent::change(&mut buffer, &Change { c: 2_650, arm: -100_000, flag: Change::NON_LIFTING })?;
+///
+/// let [mut arms, mut weights, mut nonlifting] = [[0; MOST_ARMS]; 3];
+/// let count = lent::equipment(&buffer, &mut arms, &mut weights, &mut nonlifting)?;
+/// assert_eq!(arms[..count], [-100_000, -61_000]);
+/// assert_eq!(weights[..count], [2_650, 340]);
+/// assert_eq!(nonlifting[..count], [2_650, 340]);
+/// # Ok::<(), Refusal>(())
+/// ```
+///
+/// # Errors
+///
+/// [`Refusal::File`], [`Refusal::Unweighed`], [`Refusal::Short`] where any of the
+/// three columns has fewer elements than there are arms.
+pub fn equipment(
+    buffer: &[u8],
+    arms: &mut [i64],
+    weights: &mut [i64],
+    nonlifting: &mut [i64],
+) -> Result<usize, Refusal> {
+    let mut count = 0;
+    outcome(sys::equipment(
+        buffer, arms, weights, nonlifting, &mut count,
+    ))?;
+    // It is at most MOST_ARMS, so it is not cut.
+    Ok(count as usize)
 }
 
 /// The bytes that the file at the front takes by its own length, where the

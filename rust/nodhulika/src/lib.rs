@@ -1,5 +1,5 @@
 //! The weight and balance of gliders: weighings, data sheets, changes of
-//! equipment, and the loading placard.
+//! equipment, the loading placard, and the equipment by station.
 //!
 //! This crate is a thin, safe cover over a library whose every answer is proved.
 //! It works nothing out itself: it lends the library byte slices and numbers,
@@ -12,7 +12,7 @@
 //! [`lent`] has the same calls for records kept in memory of the caller's own.
 //!
 //! A call that is not accepted gives a [`Refusal`] and changes nothing: no byte
-//! of the record, and no byte of a buffer that was lent for the answer.
+//! of the record, and nothing of a buffer or column that was lent for the answer.
 //!
 //! # Units
 //!
@@ -75,7 +75,8 @@ mod refusal;
 #[allow(unsafe_code)]
 mod sys;
 
-pub use entry::{CentreOfGravity, Change, Counts, Paired, Seat, Sheet, Station, Weighing};
+pub use entry::{CentreOfGravity, Change, Counts, Equipment};
+pub use entry::{Paired, Seat, Sheet, Station, Weighing};
 pub use record::Record;
 pub use refusal::{Refusal, UnknownNumber};
 
@@ -87,3 +88,7 @@ pub const LINE: usize = 36;
 
 /// Bytes of the longest placard, which has 256 lines.
 pub const LONGEST_PLACARD: usize = 256 * LINE;
+
+/// The most arms that the equipment of a record can have: those of 63 changes behind a
+/// weighing.
+pub const MOST_ARMS: usize = 63;

@@ -2,8 +2,8 @@
 
 use std::fmt;
 
-use crate::{lent, LONGEST_FILE, LONGEST_PLACARD};
-use crate::{CentreOfGravity, Change, Counts, Paired, Refusal, Seat, Sheet, Weighing};
+use crate::{lent, LONGEST_FILE, LONGEST_PLACARD, MOST_ARMS};
+use crate::{CentreOfGravity, Change, Counts, Equipment, Paired, Refusal, Seat, Sheet, Weighing};
 
 /// The record of a glider: its accepted weighings, plain and paired, data sheets,
 /// changes and adjustable seats, at most 64, in order.
@@ -177,6 +177,70 @@ impl Record {
             .take(counts.bytes)
             .copied()
             .map(char::from)
+            .collect())
+    }
+
+    /// The equipment by station, into the front of three columns: how many arms there
+    /// are. What goes where is said with [`lent::equipment`].
+    ///
+    /// # Errors
+    ///
+    /// [`Refusal::Unweighed`], [`Refusal::Short`].
+    pub fn equipment(
+        &self,
+        arms: &mut [i64],
+        weights: &mut [i64],
+        nonlifting: &mut [i64],
+    ) -> Result<usize, Refusal> {
+        lent::equipment(&self.buffer[..], arms, weights, nonlifting)
+    }
+
+    /// The equipment by station as a list: what the changes behind the last weighing
+    /// come to at each arm, from the nose aft.
+    ///
+    /// # Errors
+    ///
+    /// [`Refusal::Unweighed`].
+    ///
+    /// ```
+    /// use nodhulika::{Change, Equipment, Record, Refusal, Weighing};
+    ///
+    /// let mut record = Record::new();
+    /// record.weigh(&Weighing {
+    ///     m: Weighing::WHEEL_AND_TAIL,
+    ///     p: 288_000,
+    ///     q: 0,
+    ///     a: 63_334,
+    ///     b: 500_000,
+    ///     n: 140_000,
+    /// })?;
+    /// assert_eq!(record.equipment_list()?, []);
+    ///
+    /// // Ballast beside the wheel taken out, and a battery fitted at the nose.
+    /// record.change(&Change { c: -1_200, arm: 9_500, flag: Change::NON_LIFTING })?;
+    /// record.change(&Change { c: 2_650, arm: -100_000, flag: Change::NON_LIFTING })?;
+    /// assert_eq!(
+    ///     record.equipment_list()?,
+    ///     [
+    ///         Equipment { arm: -100_000, weight: 2_650, nonlifting: 2_650 },
+    ///         Equipment { arm: 9_500, weight: -1_200, nonlifting: -1_200 },
+    ///     ]
+    /// );
+    /// # Ok::<(), Refusal>(())
+    /// ```
+    pub fn equipment_list(&self) -> Result<Vec<Equipment>, Refusal> {
+        let [mut arms, mut weights, mut nonlifting] = [[0; MOST_ARMS]; 3];
+        let count = self.equipment(&mut arms, &mut weights, &mut nonlifting)?;
+        Ok(arms
+            .into_iter()
+            .zip(weights)
+            .zip(nonlifting)
+            .take(count)
+            .map(|((arm, weight), nonlifting)| Equipment {
+                arm,
+                weight,
+                nonlifting,
+            })
             .collect())
     }
 

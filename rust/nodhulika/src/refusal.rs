@@ -34,7 +34,7 @@ pub enum Refusal {
     Full = 9,
     /// The record has no entry to take back.
     Bare = 10,
-    /// A buffer is shorter than what would be written to it.
+    /// A buffer or a column is shorter than what would be written to it.
     Short = 11,
     /// The bytes are not the file of any record that accepted calls give.
     File = 12,

@@ -2,9 +2,10 @@
 //!
 //! The library asks the same of every call. A slice is passed as a pointer that
 //! is not null and is valid for the length, even where that is 0, and the length
-//! is at most `isize::MAX`: every Rust slice is so. The slices of one call do
-//! not overlap, since one of them is written: a `&mut` slice overlaps no other
-//! reference that is alive. It asks nothing of the numbers, nor of what the
+//! is at most `isize::MAX` bytes: every Rust slice is so. A column of numbers is
+//! a slice too, and its pointer is aligned for them. The slices of one call do
+//! not overlap, since at most one of them is only read: a `&mut` slice overlaps no
+//! other reference that is alive. It asks nothing of the numbers, nor of what the
 //! bytes hold: the functions are proved for every argument to stay within their
 //! slices, to end and never to unwind. They keep no pointer and no state.
 //!
@@ -109,6 +110,21 @@ extern "C" {
         out_length: usize,
         answer: *mut u8,
         answer_length: usize,
+    ) -> u64;
+
+    /// Sound with a `&` slice, three `&mut` slices and a `&mut` number, which
+    /// cannot overlap: writes to the columns only if each is long enough, and only
+    /// then to the number.
+    fn nodhulika_equipment(
+        buffer: *const u8,
+        buffer_length: usize,
+        arms: *mut i64,
+        arms_length: usize,
+        weights: *mut i64,
+        weights_length: usize,
+        nonlifting: *mut i64,
+        nonlifting_length: usize,
+        count: *mut u64,
     ) -> u64;
 }
 
@@ -220,8 +236,33 @@ pub(crate) fn placard(buffer: &[u8], out: &mut [u8], answer: &mut [u8]) -> u64 {
     }
 }
 
+pub(crate) fn equipment(
+    buffer: &[u8],
+    arms: &mut [i64],
+    weights: &mut [i64],
+    nonlifting: &mut [i64],
+    count: &mut u64,
+) -> u64 {
+    // SAFETY: pointers and lengths are those of four slices and of a number; the
+    // four that are written are exclusive, so none overlaps another.
+    unsafe {
+        nodhulika_equipment(
+            buffer.as_ptr(),
+            buffer.len(),
+            arms.as_mut_ptr(),
+            arms.len(),
+            weights.as_mut_ptr(),
+            weights.len(),
+            nonlifting.as_mut_ptr(),
+            nonlifting.len(),
+            count,
+        )
+    }
+}
+
 /// The answers' buffer is always long enough in the safe calls, so what a
-/// shorter one does is tried here.
+/// shorter one does is tried here; and that a refusal leaves the count, which
+/// they keep to themselves.
 #[cfg(test)]
 mod tests {
     use super::*;
@@ -301,6 +342,41 @@ mod tests {
         ] {
             assert_eq!(centre(buffer, &mut []), of_centre);
             assert_eq!(placard(buffer, &mut [], &mut []), of_placard);
+        }
+    }
+
+    #[test]
+    fn the_count_is_written_only_where_it_is_accepted() {
+        let mut bare = [0; 6];
+        assert_eq!(fresh(&mut bare), 0);
+        let mut fitted = weighed();
+        for arm in [1, -1, 1] {
+            let c = 100;
+            assert_eq!(change(&mut fitted, &Change { c, arm, flag: 0 }), 0);
+        }
+        for (buffer, length, number) in [
+            (&[][..], 2, 12),
+            (&bare[..], 2, 7),
+            (&fitted[..], 1, SHORT),
+            (&fitted[..], 2, 0),
+        ] {
+            let (mut arms, mut weights, mut nonlifting) = ([9; 2], [9; 2], [9; 2]);
+            let mut count = u64::MAX;
+            let answer = equipment(
+                buffer,
+                &mut arms,
+                &mut weights,
+                &mut nonlifting[..length],
+                &mut count,
+            );
+            assert_eq!(answer, number);
+            if number == 0 {
+                let columns = (arms, weights, nonlifting);
+                assert_eq!((count, columns), (2, ([-1, 1], [100, 200], [0, 0])));
+            } else {
+                let columns = (arms, weights, nonlifting);
+                assert_eq!((count, columns), (u64::MAX, ([9; 2], [9; 2], [9; 2])));
+            }
         }
     }
 }

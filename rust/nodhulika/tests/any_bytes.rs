@@ -84,6 +84,15 @@ fn any_bytes_will_do() {
             lent::centre(&buffer) == Err(Refusal::File),
             lent::check(&buffer).is_err()
         );
+
+        let [mut arms, mut weights, mut nonlifting] = [[i64::MIN; 5]; 3];
+        let answer = lent::equipment(&buffer, &mut arms, &mut weights, &mut nonlifting);
+        assert_eq!(answer == Err(Refusal::File), lent::check(&buffer).is_err());
+        let written = answer.unwrap_or(0);
+        assert!(arms[..written].is_sorted());
+        for column in [arms, weights, nonlifting] {
+            assert!(column[written..].iter().all(|&element| element == i64::MIN));
+        }
     }
     // Both kinds of buffer were tried.
     assert!(

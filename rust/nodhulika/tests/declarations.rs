@@ -6,7 +6,7 @@ use std::collections::BTreeMap;
 use std::fs;
 use std::path::Path;
 
-use nodhulika::{Refusal, LINE, LONGEST_FILE, LONGEST_PLACARD};
+use nodhulika::{Refusal, LINE, LONGEST_FILE, LONGEST_PLACARD, MOST_ARMS};
 
 /// Each function's parameters in order, as `name: type`, and last its answer. A
 /// slice counts as its pointer and its length.
@@ -82,6 +82,8 @@ fn passed(parameter: &str) -> Vec<String> {
     let pointer = match kind {
         "&[u8]" => "*const u8",
         "&mut [u8]" => "*mut u8",
+        "&mut [i64]" => "*mut i64",
+        "&mut u64" => return vec![format!("{name}: *mut u64")],
         _ => return vec![parameter.to_owned()],
     };
     vec![
@@ -125,6 +127,8 @@ fn rust_type(c_type: &str) -> &str {
     match c_type {
         "const uint8_t *" => "*const u8",
         "uint8_t *" => "*mut u8",
+        "int64_t *" => "*mut i64",
+        "uint64_t *" => "*mut u64",
         "size_t" => "usize",
         "uint64_t" => "u64",
         "int64_t" => "i64",
@@ -177,7 +181,7 @@ fn promised(text: &str) -> BTreeMap<String, Vec<&str>> {
 fn the_exports_promise_what_is_proved() {
     let (exports, proved) = (rattle(), proved());
     let promises = promised(&exports);
-    assert_eq!(promises.len(), 11);
+    assert_eq!(promises.len(), 12);
     assert!(promises.values().all(|clauses| !clauses.is_empty()));
     assert_eq!(promises, promised(&proved));
 }
@@ -185,7 +189,7 @@ fn the_exports_promise_what_is_proved() {
 #[test]
 fn all_three_declare_the_same() {
     let exported = declared_in_rattle(&rattle());
-    assert_eq!(exported.len(), 11, "{exported:?}");
+    assert_eq!(exported.len(), 12, "{exported:?}");
     assert_eq!(declared_in_header(&header()), exported);
     assert_eq!(declared_in_rust(&rust()), exported);
 }
@@ -211,6 +215,9 @@ fn a_declaration_that_drifts_is_caught() {
         ),
         ("const uint8_t *file", "uint8_t *file"),
         (", size_t out_length", ""),
+        ("int64_t *weights", "uint64_t *weights"),
+        ("int64_t *arms", "int64_t *stations"),
+        ("uint64_t *count", "int64_t *count"),
         ("uint64_t nodhulika_undo", "int64_t nodhulika_undo"),
     ];
     caught(&header(), declared_in_header, &in_header);
@@ -220,6 +227,8 @@ fn a_declaration_that_drifts_is_caught() {
         ("p2: u64", "q2: u64"),
         ("lower: i64, higher: i64", "higher: i64, lower: i64"),
         ("answer: *mut u8", "answer: *const u8"),
+        ("weights_length: usize", "weights_length: u64"),
+        ("count: *mut u64", "count: u64"),
         ("fn nodhulika_undo(", "fn nodhulika_redo("),
     ];
     caught(&rust(), declared_in_rust, &in_rust);
@@ -228,6 +237,8 @@ fn a_declaration_that_drifts_is_caught() {
         ("arm: i64, flag: u64", "flag: u64, arm: i64"),
         ("flag: u64) -> u64", "flag: u64) -> i64"),
         ("lower: i64, higher: i64", "lower: i64, higher: u64"),
+        ("weights: &mut [i64]", "weights: &mut [u8]"),
+        ("count: &mut u64", "count: u64"),
     ];
     caught(&rattle(), declared_in_rattle, &in_rattle);
 }
@@ -266,6 +277,7 @@ fn the_header_has_the_same_numbers() {
         ("NODHULIKA_LINE", LINE),
         ("NODHULIKA_LONGEST_PLACARD", LONGEST_PLACARD),
         ("NODHULIKA_ANSWER", 24),
+        ("NODHULIKA_MOST_ARMS", MOST_ARMS),
     ] {
         assert_eq!(number_in_header(name), Some(size as u64), "{name}");
     }
@@ -278,14 +290,16 @@ fn constant_in(path: &str, name: &str) -> Option<usize> {
     rest.split(';').next()?.replace('_', "").parse().ok()
 }
 
-/// The sources prove of these two that no file and no placard is longer, and
-/// that one has just that length (`file::longest`, `plate::longest`).
+/// The sources prove of these that no file and no placard is longer and no equipment
+/// has more arms, and that one has just that length (`file::longest`,
+/// `plate::longest`) or as many.
 #[test]
 fn the_longest_are_those_that_are_promised() {
-    for (path, size) in [
-        ("crates/file/src/lib.rt", LONGEST_FILE),
-        ("crates/plate/src/lib.rt", LONGEST_PLACARD),
+    for (path, name, size) in [
+        ("crates/file/src/lib.rt", "LONGEST", LONGEST_FILE),
+        ("crates/plate/src/lib.rt", "LONGEST", LONGEST_PLACARD),
+        ("crates/inventory/src/lib.rt", "MOST", MOST_ARMS),
     ] {
-        assert_eq!(constant_in(path, "LONGEST"), Some(size), "{path}");
+        assert_eq!(constant_in(path, name), Some(size), "{path}");
     }
 }

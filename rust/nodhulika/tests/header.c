@@ -1,5 +1,6 @@
 /* What the header defines itself: its two inline functions, and what they read
- * of a record and of an answer. And a seat's ends, as C passes them. */
+ * of a record and of an answer. And a seat's ends and the columns of the equipment,
+ * as C passes them. */
 #include <stdio.h>
 #include <stdlib.h>
 
@@ -91,11 +92,41 @@ static void seat_ends(void)
     EXPECT(nodhulika_answer_number(answer, 2) == 1);
 }
 
+/* Two parts at one arm and one ahead of it, in columns of three lengths. */
+static void equipment_columns(void)
+{
+    uint8_t record[64];
+    int64_t arms[NODHULIKA_MOST_ARMS] = {0}, weights[2] = {0};
+    int64_t nonlifting[3] = {0};
+    uint64_t count = 99;
+
+    EXPECT(nodhulika_fresh(record, sizeof record) == NODHULIKA_OK);
+    EXPECT(nodhulika_equipment(record, sizeof record, arms, 63, weights, 2,
+                               nonlifting, 3, &count) == NODHULIKA_UNWEIGHED);
+    EXPECT(nodhulika_weigh(record, sizeof record, 1, 100, 0, 0, 1, 50) ==
+           NODHULIKA_OK);
+    EXPECT(nodhulika_change(record, sizeof record, 5, 9, 0) == NODHULIKA_OK);
+    EXPECT(nodhulika_change(record, sizeof record, -7, -9, 1) == NODHULIKA_OK);
+    EXPECT(nodhulika_change(record, sizeof record, -6, 9, 1) == NODHULIKA_OK);
+    EXPECT(nodhulika_equipment(record, sizeof record, arms, 63, weights, 1,
+                               nonlifting, 3, &count) == NODHULIKA_SHORT);
+    EXPECT(nodhulika_equipment(record, 57, arms, 63, weights, 2, nonlifting, 3,
+                               &count) == NODHULIKA_FILE);
+    EXPECT(count == 99 && arms[0] == 0 && weights[0] == 0);
+    EXPECT(nodhulika_equipment(record, sizeof record, arms, 63, weights, 2,
+                               nonlifting, 3, &count) == NODHULIKA_OK);
+    EXPECT(count == 2);
+    EXPECT(arms[0] == -9 && weights[0] == -7 && nonlifting[0] == -7);
+    EXPECT(arms[1] == 9 && weights[1] == -1 && nonlifting[1] == -6);
+    EXPECT(arms[2] == 0 && nonlifting[2] == 0);
+}
+
 int main(void)
 {
     file_lengths();
     answer_numbers();
     half_grams();
     seat_ends();
+    equipment_columns();
     return EXIT_SUCCESS;
 }

@@ -5,7 +5,7 @@ mod common;
 use common::{case_g, full, lent, of_version_1, FREE};
 use common::{G_PAIRED, G_SEAT, G_SHEET, G_WEIGHING, H_CHANGE};
 use nodhulika::lent::{
-    centre, change, check, fresh, placard, read, seat, sheet, undo, weigh, weigh_paired,
+    centre, change, check, equipment, fresh, placard, read, seat, sheet, undo, weigh, weigh_paired,
 };
 use nodhulika::{Change, Paired, Record, Refusal, Seat, Sheet, Weighing};
 use nodhulika::{UnknownNumber, LONGEST_FILE};
@@ -178,6 +178,9 @@ fn number_7_unweighed() {
         change(buffer, &H_CHANGE)
     });
     refused(&record, Refusal::Unweighed, |buffer| centre(buffer));
+    refused(&record, Refusal::Unweighed, |buffer| {
+        equipment(buffer, &mut [], &mut [], &mut [])
+    });
     let mut out = [FREE; 108];
     refused(&record, Refusal::Unweighed, |buffer| {
         placard(buffer, &mut out)
@@ -240,6 +243,14 @@ fn number_11_short() {
     refused(&record, Refusal::Short, |buffer| placard(buffer, &mut out));
     assert_eq!(out, [FREE; 107]);
 
+    let mut fitted = case_g();
+    assert_eq!(fitted.change(&H_CHANGE), Ok(()));
+    let (mut arms, mut weights) = ([7; 2], [8; 1]);
+    refused(&fitted, Refusal::Short, |buffer| {
+        equipment(buffer, &mut arms, &mut weights, &mut [])
+    });
+    assert_eq!((arms, weights), ([7; 2], [8; 1]));
+
     let mut five = [FREE; 5];
     assert_eq!(fresh(&mut five), Err(Refusal::Short));
     assert_eq!(five, [FREE; 5]);
@@ -268,6 +279,10 @@ fn number_12_file() {
         assert_eq!(placard(bytes, &mut out), Err(Refusal::File));
         assert_eq!(out, [FREE; 108]);
         assert_eq!(centre(bytes), Err(Refusal::File));
+        assert_eq!(
+            equipment(bytes, &mut [], &mut [], &mut []),
+            Err(Refusal::File)
+        );
         assert_eq!(check(bytes), Err(Refusal::File));
         assert_eq!(nodhulika::lent::file(bytes), Err(Refusal::File));
 

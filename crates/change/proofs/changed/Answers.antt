@@ -11,7 +11,8 @@ use Rattle.paper.proofs.Units.{IsArm, arm_range}
 use Rattle.paper.specs.Units.{is_arm, between}
 use Rattle.balance.specs.declared.Balance.{Balance}
 use Rattle.balance.specs.Balance.{an_entry}
-use Rattle.change.proofs.Changes.{inside, gain, part, c_range, gain_range, part_range, total_test, part_test, arm_bad, change_bad, total_bad, part_bad, all_fine, ranged, after_is}
+use Rattle.paper.proofs.Changes.{weight_range}
+use Rattle.change.proofs.Changes.{inside, gain, part, gain_range, part_range, total_test, part_test, arm_bad, change_bad, total_bad, part_bad, all_fine, ranged, after_is}
 use Rattle.change.proofs.Products.{sum_fits, sum_is, unsigned, small, small_fits}
 use Rattle.change.proofs.changed.Goals.{After-holds, After-half_grams-gain, After-counted}
 use Rattle.change.proofs.changed.Goals as goal
@@ -92,7 +93,7 @@ returns-then-not-in_range-clause-number c =
 
 pub half_grams-gain-requires : goal.half_grams-gain-requires
 half_grams-gain-requires c =
-    let range = c_range c.args.x (sym c.in_range.ensures ∙ c.if-not-in_range.false) in
+    let range = weight_range c.args.x (sym c.in_range.ensures ∙ c.if-not-in_range.false) in
     search rules
 
 pub overflow_add-total : goal.overflow_add-total

@@ -13,12 +13,14 @@
 //! an archive from before seats can be counted as well, by the lines that it can run:
 //! with `NODHULIKA_LIB_DIR` set to its folder, and with
 //! `RUSTFLAGS="-C link-arg=-Wl,--defsym=nodhulika_seat=0"`; of one from before paired
-//! weighings with the same argument for `nodhulika_weigh_paired` beside it.
+//! weighings with the same argument for `nodhulika_weigh_paired` beside it. One from
+//! before the equipment by station wants the argument for `nodhulika_equipment`, and
+//! `NO_EQUIPMENT` set when the bench is run, to anything.
 
 #![forbid(unsafe_code)]
 
 use judge::generate::{case, Case};
-use judge::paper::{Call, Change, Counts, Paired, Seat, Sheet, Weighing};
+use judge::paper::{Call, Change, Columns, Counts, Paired, Seat, Sheet, Weighing};
 use judge::run::{front_file, Calls, Fast};
 use library::Library;
 use std::env;
@@ -42,6 +44,7 @@ const POINT_ROUND: Duration = Duration::from_millis(4);
 
 const LONGEST_FILE: usize = 3_910;
 const LONGEST_PLACARD: usize = 9_216;
+const MOST_ARMS: usize = 63;
 
 /// A record that entries are put into, by the side that will work on it.
 struct Builder<C> {
@@ -140,6 +143,17 @@ const SEAT: Seat = Seat {
     lower: -134_000,
     higher: -126_000,
 };
+
+/// The parts of a list of 63 changes, each of which is at one of so many arms: behind
+/// one another from the fin to the nose, and then again.
+fn parts_at(arms: usize) -> Vec<Change> {
+    let place = |i: usize| 400_000 - 8_000 * (i % arms) as i64;
+    let part = |i: usize| Change {
+        arm: place(i),
+        ..PARTS[i % PARTS.len()]
+    };
+    (0..MOST_ARMS).map(part).collect()
+}
 
 /// The sheet with one row, or with a multiple of 16.
 fn sheet(rows: usize) -> Call {
@@ -277,10 +291,12 @@ enum Job {
     CheckPairs,
     /// Reading the file of a sheet and 63 seats.
     CheckSeats,
+    /// The equipment by station of a weighing and 63 changes at so many arms.
+    Equipment { arms: usize },
 }
 
 /// The lines of the benchmark.
-const LINES: [(&str, Job); 8] = [
+const LINES: [(&str, Job); 10] = [
     (
         "a. placard of 256 rows, 64 entries",
         Job::Placard {
@@ -298,13 +314,25 @@ const LINES: [(&str, Job); 8] = [
     ("d. placards of 4,000 gliders", Job::Fleet),
     ("e. reading 64 paired weighings", Job::CheckPairs),
     ("e. reading a sheet and 63 seats", Job::CheckSeats),
+    (
+        "f. equipment of 63 changes at as many arms, falling",
+        Job::Equipment { arms: MOST_ARMS },
+    ),
+    (
+        "f. equipment of 63 changes at eight arms",
+        Job::Equipment { arms: 8 },
+    ),
 ];
 
 /// Those that the linked library can run, by the files that it takes: an older one
-/// has no paired weighings or no seats.
+/// has no paired weighings or no seats, or is said to have no equipment.
 fn lines() -> Vec<(&'static str, Job)> {
     let takes = |job: Job| Library::check(&job.desk::<Fast>().records[0]) == 0;
-    let runs = |job| !matches!(job, Job::CheckPairs | Job::CheckSeats) || takes(job);
+    let runs = |job| match job {
+        Job::CheckPairs | Job::CheckSeats => takes(job),
+        Job::Equipment { .. } => env::var_os("NO_EQUIPMENT").is_none(),
+        _ => true,
+    };
     LINES.into_iter().filter(|(_, job)| runs(*job)).collect()
 }
 
@@ -313,6 +341,8 @@ fn lines() -> Vec<(&'static str, Job)> {
 struct Desk {
     records: Vec<Vec<u8>>,
     plate: Vec<u8>,
+    /// Columns of arms, net weights and net non-lifting weights.
+    columns: [[i64; MOST_ARMS]; 3],
 }
 
 impl Job {
@@ -341,6 +371,13 @@ impl Job {
                 while record.add(&Call::Seat(SEAT)) {}
                 vec![record.file()]
             }
+            Job::Equipment { arms } => {
+                record.put(&Call::Weigh(WEIGHING));
+                for part in parts_at(arms) {
+                    record.put(&Call::Change(part));
+                }
+                vec![record.file()]
+            }
             Job::CheckChanges | Job::UndoAndChange | Job::RefusedChange => {
                 record.put(&Call::Weigh(WEIGHING));
                 record.put(&sheet(256));
@@ -352,12 +389,17 @@ impl Job {
         Desk {
             records,
             plate: vec![0; LONGEST_PLACARD],
+            columns: [[0; MOST_ARMS]; 3],
         }
     }
 
     /// Does the job once; the sum of the numbers of refusal and the blank rows.
     fn run<C: Calls>(self, desk: &mut Desk) -> u64 {
-        let Desk { records, plate } = desk;
+        let Desk {
+            records,
+            plate,
+            columns,
+        } = desk;
         match self {
             Job::Placard { .. } | Job::Fleet => records
                 .iter()
@@ -372,6 +414,15 @@ impl Job {
                 C::call(record, black_box(&UNDO)) + C::call(record, black_box(&LAST_CALL))
             }
             Job::RefusedChange => C::call(black_box(&mut records[0]), black_box(&LAST_CALL)),
+            Job::Equipment { .. } => {
+                let [arms, weights, nonlifting] = black_box(columns);
+                let columns = Columns {
+                    arms,
+                    weights,
+                    nonlifting,
+                };
+                C::equipment(black_box(&records[0]), columns).map_or_else(|number| number, |_| 0)
+            }
         }
     }
 
@@ -562,7 +613,9 @@ fn print_lines() {
 
 /// What the fleet is like.
 fn print_fleet() {
-    let Desk { records, mut plate } = Job::Fleet.desk::<Fast>();
+    let Desk {
+        records, mut plate, ..
+    } = Job::Fleet.desk::<Fast>();
     let entries: u64 = records.iter().map(|record| u64::from(record[5])).sum();
     let counts: Vec<Counts> = records
         .iter()
@@ -617,7 +670,7 @@ fn print_times() {
     println!("Times are medians, ratios those of the rounds.\n");
     print_lines();
     print_fleet();
-    println!("\nf. The library's placard by rows, at 64 entries:");
+    println!("\ng. The library's placard by rows, at 64 entries:");
     let rows = [1, 32, 64, 96, 128, 160, 192, 224, 256];
     print_straight("rows", "a row", &rows, |rows| Job::Placard {
         entries: 64,
@@ -771,6 +824,22 @@ mod tests {
         }
         let sheets = Job::CheckSheets.desk::<Fast>();
         assert_eq!(sheets.records[0].len(), LONGEST_FILE);
+    }
+
+    #[test]
+    fn the_equipment_has_its_arms() {
+        for arms in [8, MOST_ARMS] {
+            let mut desk = Job::Equipment { arms }.desk::<Fast>();
+            let [places, weights, nonlifting] = &mut desk.columns;
+            let columns = Columns {
+                arms: places,
+                weights,
+                nonlifting,
+            };
+            assert_eq!(Fast::equipment(&desk.records[0], columns), Ok(arms));
+            assert_eq!(desk.records[0][5], 64);
+            assert!(desk.columns[0][..arms].is_sorted());
+        }
     }
 
     #[test]

@@ -5,14 +5,16 @@
 //! Each case is run four times: by the library, through its safe calls on lent
 //! buffers; by the paper, with plain loops; by the direct functions; and by the
 //! fast ones. Every number and every byte must be the same, of the record's buffer
-//! after every call, of the placard's buffer and of the answers' buffers. The files
-//! that cases read back, good and damaged, are also lent as a record's buffer. A
-//! difference is printed with all of its case and ends the program with 1.
+//! after every call, of the placard's buffer, of the answers' buffers and of the
+//! equipment's columns. The files that cases read back, good and damaged, are also
+//! lent as a record's buffer. A difference is printed with all of its case and ends
+//! the program with 1.
 
 #![deny(unsafe_code)]
 
 use judge::generate::{case, Case};
-use judge::run::{Answers, By, Direct, Fast, Guarded, Lent, Paper, Plate, Trial, WORK};
+use judge::run::WORK;
+use judge::run::{Answers, By, Direct, Fast, Guarded, Inventory, Lent, Paper, Plate, Trial};
 use library::Library;
 use std::fmt::{self, Display, Formatter};
 use std::panic::catch_unwind;
@@ -20,10 +22,10 @@ use std::process::ExitCode;
 
 mod library;
 
-/// The two calls that write an answer, with the answer's buffer in sight.
+/// The calls that write an answer or a count, with its place in sight.
 ///
-/// The safe calls lend 24 bytes of their own and give numbers back: neither a
-/// shorter buffer nor the bytes of an answer can be tried through them.
+/// The safe calls lend 24 bytes or a count of their own and give numbers back: neither
+/// a shorter buffer nor what becomes of an answer can be tried through them.
 #[allow(unsafe_code)]
 mod raw {
     extern "C" {
@@ -41,6 +43,18 @@ mod raw {
             out_length: usize,
             answer: *mut u8,
             answer_length: usize,
+        ) -> u64;
+
+        fn nodhulika_equipment(
+            buffer: *const u8,
+            buffer_length: usize,
+            arms: *mut i64,
+            arms_length: usize,
+            weights: *mut i64,
+            weights_length: usize,
+            nonlifting: *mut i64,
+            nonlifting_length: usize,
+            count: *mut u64,
         ) -> u64;
     }
 
@@ -70,6 +84,26 @@ mod raw {
                 out.len(),
                 answer.as_mut_ptr(),
                 answer.len(),
+            )
+        }
+    }
+
+    /// The equipment's number.
+    pub fn equipment(buffer: &[u8], columns: [&mut [i64]; 3], count: &mut u64) -> u64 {
+        let [arms, weights, nonlifting] = columns;
+        // SAFETY: pointers and lengths are those of four slices and of a number, and
+        // the four that are written are exclusive.
+        unsafe {
+            nodhulika_equipment(
+                buffer.as_ptr(),
+                buffer.len(),
+                arms.as_mut_ptr(),
+                arms.len(),
+                weights.as_mut_ptr(),
+                weights.len(),
+                nonlifting.as_mut_ptr(),
+                nonlifting.len(),
+                count,
             )
         }
     }
@@ -131,6 +165,24 @@ fn placard_is_written(record: &[u8], trial: &Trial, plate: &Plate, length: usize
         && out.holds()
 }
 
+/// What a count is before the call.
+const COUNT_FILL: u64 = u64::MAX;
+
+/// Whether the count is written where the equipment is accepted, and only there, and
+/// the columns as they must be.
+fn equipment_is_written(record: &[u8], trial: &Trial, inventory: &Inventory) -> bool {
+    let (number, due) = match inventory.answer {
+        Ok(count) => (0, count as u64),
+        Err(number) => (number, COUNT_FILL),
+    };
+    let mut columns = trial.lent_columns();
+    let mut count = COUNT_FILL;
+    let lent = columns.each_mut().map(Guarded::inside_mut);
+    raw::equipment(record, lent, &mut count) == number
+        && count == due
+        && columns == inventory.columns
+}
+
 // ---- A trial on four sides ----
 
 /// What one side answers; its placard is left out where it takes too long.
@@ -138,6 +190,7 @@ struct Side {
     name: &'static str,
     answers: Answers,
     plate: Option<Plate>,
+    inventory: Inventory,
 }
 
 impl Side {
@@ -148,6 +201,7 @@ impl Side {
             name,
             answers,
             plate,
+            inventory: trial.equipment(&lent),
         };
         (lent, side)
     }
@@ -200,6 +254,10 @@ impl Outcome {
                 self.faults
                     .push(format!("placard, library and {}", side.name));
             }
+            if side.inventory != self.library.inventory {
+                self.faults
+                    .push(format!("equipment, library and {}", side.name));
+            }
         }
     }
 
@@ -208,7 +266,18 @@ impl Outcome {
         if !lent.guards_hold() {
             self.faults.push("bytes beside the record's buffer".into());
         }
-        let Side { answers, plate, .. } = &self.direct;
+        let Side {
+            answers,
+            plate,
+            inventory,
+            ..
+        } = &self.direct;
+        if !inventory.columns.iter().all(Guarded::holds) {
+            self.faults.push("elements beside a column".into());
+        }
+        if !equipment_is_written(lent.buffer(), trial, inventory) {
+            self.faults.push("equipment with its count".into());
+        }
         for length in ANSWER_LENGTHS {
             if !centre_is_written(lent.buffer(), answers, length) {
                 self.faults
@@ -297,6 +366,12 @@ impl Display for Report<'_> {
                 writeln!(f, "    {:8} record {}", side.name, hex(&plate.record))?;
             }
         }
+        let question = format!("equipment into {:?} elements", trial.columns);
+        self.answers(f, &question, |side| side.inventory.answer)?;
+        for side in self.outcome.sides() {
+            let columns = side.inventory.columns.each_ref().map(Guarded::inside);
+            writeln!(f, "    {:8} columns {columns:?}", side.name)?;
+        }
         Ok(())
     }
 }
@@ -316,13 +391,22 @@ struct Tally {
     rows: u64,
     /// Placards that took plain loops too long.
     direct_only: u64,
-    /// How often each number was given by calls, centres and placards.
-    numbers: [[u64; 3]; 13],
+    /// Equipment given, its arms, and those with a net of nought.
+    inventories: u64,
+    arms: u64,
+    noughts: u64,
+    /// How often each number was given by calls, centres, placards and equipment.
+    numbers: [[u64; 4]; 13],
 }
 
 impl Tally {
     fn add(&mut self, trial: &Trial, outcome: &Outcome) {
-        let Side { answers, plate, .. } = &outcome.library;
+        let Side {
+            answers,
+            plate,
+            inventory,
+            ..
+        } = &outcome.library;
         self.cases += u64::from(trial.fresh);
         self.found += u64::from(!trial.fresh);
         self.calls += answers.numbers.len() as u64;
@@ -339,6 +423,13 @@ impl Tally {
                 self.rows += counts.rows as u64;
             }
         }
+        self.numbers[inventory.answer.err().unwrap_or(0) as usize][3] += 1;
+        if let Ok(count) = inventory.answer {
+            let [_, weights, _] = inventory.columns.each_ref().map(Guarded::inside);
+            self.inventories += 1;
+            self.arms += count as u64;
+            self.noughts += weights.iter().filter(|weight| **weight == 0).count() as u64;
+        }
     }
 }
 
@@ -351,9 +442,19 @@ impl Display for Tally {
         writeln!(f, "  with a seat           {:12}", self.seats)?;
         writeln!(f, "  with direct only      {:12}", self.direct_only)?;
         writeln!(f, "rows                    {:12}", self.rows)?;
-        writeln!(f, "\nnumber        calls      centres     placards")?;
-        for (number, [calls, centres, placards]) in self.numbers.iter().enumerate() {
-            writeln!(f, "{number:6} {calls:12} {centres:12} {placards:12}")?;
+        writeln!(f, "equipment               {:12}", self.inventories)?;
+        writeln!(f, "arms                    {:12}", self.arms)?;
+        writeln!(f, "  with a net of nought  {:12}", self.noughts)?;
+        writeln!(
+            f,
+            "\nnumber        calls      centres     placards    equipment"
+        )?;
+        for (number, counts) in self.numbers.iter().enumerate() {
+            let [calls, centres, placards, equipment] = counts;
+            writeln!(
+                f,
+                "{number:6} {calls:12} {centres:12} {placards:12} {equipment:12}"
+            )?;
         }
         Ok(())
     }

@@ -14,6 +14,7 @@
 //! | `Read HEX` | reading back these bytes; none where nothing stands behind `Read ` |
 //! | `Check` | whether a record stands |
 //! | `Centre` | the centre of gravity |
+//! | `Equipment A B C` | the equipment by station into columns of so many elements, all −1000000007 |
 //! | `Placard N` | the placard into a buffer of N bytes, all AA, which ends the case |
 //!
 //! The input is one of whole cases in blocks of 65,536 bytes, filled up with
@@ -22,17 +23,20 @@
 //! DIR/stdout has a line for each case, its answers in order: for `Fresh` and
 //! the calls their numbers; for `Check` its number and the sum of the record's
 //! buffer; for `Centre` its number and, where that is 0, total, moment and
-//! centre; for `Placard` its number, where that is 0 bytes, rows and blank rows,
-//! and always the sum of its buffer. The sum of bytes begins with 0 and is, with
-//! each byte x, sum % 1000003 * 257 + x.
+//! centre; for `Equipment` its number, where that is 0 the count of arms, and always
+//! the sum of its columns, one behind the other; for `Placard` its number, where that
+//! is 0 bytes, rows and blank rows, and always the sum of its buffer. The sum of bytes
+//! begins with 0 and is, with each byte x, sum % 1000003 * 257 + x. That of elements is
+//! the same with what each leaves over 1000003, 0 to 1000002.
 //!
 //! # Which cases
 //!
 //! The eight kinds take turns, each giving its cases in the generator's order.
 //! Most cases are short, but lists, changes, files and edges have long ones that
 //! would fill the input with a few hundred cases. So each kind may give so many
-//! cases over a usual length of text, the first that it has; further ones are
-//! left out, and the kind's next case takes the place. Left out too is a case
+//! cases over a usual length of text, the first that it has, and some whose equipment
+//! has as many arms as there can be; further ones are left out, and the kind's next
+//! case takes the place. Left out too is a case
 //! whose placard would take plain loops too long. A number of more than eighteen
 //! digits becomes eighteen nines, which is as far out of every range.
 //!
@@ -44,7 +48,7 @@
 
 use judge::generate::{case, Case};
 use judge::paper::{Call, Centre, Change, Counts, Paired, Seat, Sheet, Weighing};
-use judge::run::{later, Answers, Paper, Plate, Trial, BEHIND};
+use judge::run::{later, Answers, Guarded, Inventory, Paper, Plate, Trial, BEHIND};
 use std::collections::BTreeMap;
 use std::path::Path;
 use std::process::ExitCode;
@@ -58,18 +62,23 @@ const KINDS: usize = 8;
 /// Cases of each kind.
 const CASES: usize = 310;
 
-/// Bytes of text that a case usually has, and how many cases of a kind may have
-/// more.
-const USUAL_TEXT: usize = 700;
-const LONG_CASES: usize = 20;
+/// Bytes of text that a case usually has, how many cases of a kind may have more, and
+/// how many more of those whose equipment has the most arms.
+const USUAL_TEXT: usize = 720;
+const LONG_CASES: usize = 19;
+const FULL_CASES: usize = 3;
+
+/// The most arms of the equipment of a record.
+const MOST_ARMS: usize = 63;
 
 /// Most bytes of the whole input, of a block of it, of a file that is read back,
-/// and of the buffers.
+/// and of the buffers; and most elements of a column.
 const MOST_INPUT: usize = 1_000_000;
 const BLOCK: usize = 65_536;
 const MOST_FILE: usize = 4_096;
 const MOST_ROOM: usize = 4_096;
 const MOST_PLATE: usize = 9_400;
+const MOST_COLUMN: usize = 70;
 
 /// Tests of the limits that a placard may take.
 const MOST_WORK: u64 = 20_000_000;
@@ -194,6 +203,8 @@ fn input(trial: &Trial) -> String {
     lines.extend(trial.calls.iter().map(call_line));
     lines.push("Check".to_string());
     lines.push("Centre".to_string());
+    let [arms, weights, nonlifting] = trial.columns;
+    lines.push(format!("Equipment {arms} {weights} {nonlifting}"));
     lines.push(format!("Placard {}\n", trial.plate.len()));
     lines.join("\n")
 }
@@ -207,9 +218,19 @@ fn sum(bytes: &[u8]) -> u64 {
         .fold(0, |sum, byte| sum % 1_000_003 * 257 + u64::from(*byte))
 }
 
+/// The sum of elements of columns, one behind the other.
+fn sum_of_columns(columns: [&[i64]; 3]) -> u64 {
+    const MODULUS: u64 = 1_000_003;
+    let rest = |element: &i64| element.rem_euclid(MODULUS as i64) as u64;
+    columns
+        .concat()
+        .iter()
+        .fold(0, |sum, element| sum % MODULUS * 257 + rest(element))
+}
+
 /// The line of answers to a case. What is lent has room for the fresh record that
 /// it takes the place of.
-fn output(answers: &Answers, plate: &Plate) -> String {
+fn output(answers: &Answers, inventory: &Inventory, plate: &Plate) -> String {
     let mut words: Vec<String> = Vec::new();
     let mut say = |number: u64| words.push(number.to_string());
     say(answers.fresh.unwrap_or(0));
@@ -224,6 +245,12 @@ fn output(answers: &Answers, plate: &Plate) -> String {
         }) => words.push(format!("0 {total} {moment} {centre}")),
         Err(number) => words.push(number.to_string()),
     }
+    match inventory.answer {
+        Ok(count) => words.push(format!("0 {count}")),
+        Err(number) => words.push(number.to_string()),
+    }
+    let columns = inventory.columns.each_ref().map(Guarded::inside);
+    words.push(sum_of_columns(columns).to_string());
     match plate.answer {
         Ok(Counts { bytes, rows, blank }) => words.push(format!("0 {bytes} {rows} {blank}")),
         Err(number) => words.push(number.to_string()),
@@ -241,6 +268,7 @@ struct Stored {
     /// The record's buffer, where a file is lent as it is.
     lent: Option<Vec<u8>>,
     answers: Answers,
+    inventory: Inventory,
     plate: Plate,
     input: String,
 }
@@ -269,17 +297,20 @@ impl Stored {
             fresh: lent.is_none(),
             calls: &calls,
             plate: vec![FILL; case.plate],
+            columns: case.columns,
         };
         let (paper, answers) = trial.run::<Paper>();
         if paper.work() > MOST_WORK {
             return None;
         }
         let (plate, input) = (trial.placard(&paper), input(&trial));
+        let inventory = trial.equipment(&paper);
         Some(Stored {
             kind: case.kind,
             calls,
             lent,
             answers,
+            inventory,
             plate,
             input,
         })
@@ -289,8 +320,12 @@ impl Stored {
     fn fits(&self) -> bool {
         let record = self.plate.record.len();
         let plate = self.plate.bytes.len();
+        let columns = self.inventory.columns.iter().map(Guarded::inside);
         record <= MOST_ROOM
             && plate <= MOST_PLATE
+            && columns
+                .map(<[i64]>::len)
+                .all(|length| length <= MOST_COLUMN)
             && self.input.len() <= BLOCK
             && self.files().all(|file| file.len() <= MOST_FILE)
     }
@@ -308,8 +343,9 @@ impl Stored {
 struct Kind {
     /// The index of the next case.
     index: u64,
-    /// How many more may be long.
+    /// How many more may be long, and how many more with the most arms.
     long: usize,
+    full: usize,
 }
 
 impl Kind {
@@ -320,6 +356,10 @@ impl Kind {
             self.index += KINDS as u64;
             match stored {
                 Some(stored) if stored.input.len() <= USUAL_TEXT => return stored,
+                Some(stored) if self.full > 0 && stored.inventory.answer == Ok(MOST_ARMS) => {
+                    self.full -= 1;
+                    return stored;
+                }
                 Some(stored) if self.long > 0 => {
                     self.long -= 1;
                     return stored;
@@ -335,6 +375,7 @@ fn choose() -> Vec<Stored> {
     let mut kinds: [Kind; KINDS] = std::array::from_fn(|kind| Kind {
         index: kind as u64,
         long: LONG_CASES,
+        full: FULL_CASES,
     });
     (0..CASES * KINDS)
         .map(|turn| kinds[turn % KINDS].next())
@@ -354,8 +395,12 @@ const OLD: u8 = 1;
 #[derive(Default)]
 struct Summary {
     kinds: BTreeMap<&'static str, usize>,
-    /// Numbers of calls, checks, centres and placards.
-    numbers: [[usize; 4]; 13],
+    /// Numbers of calls, checks, centres, placards and equipment.
+    numbers: [[usize; 5]; 13],
+    /// Equipment given by how many arms it has: none, one, up to 8, more, 63.
+    arms: [usize; 5],
+    /// Arms with a net of nought.
+    noughts: usize,
     /// Cases of 60 calls and more.
     many_calls: usize,
     /// Paired weighings accepted and refused, and seats.
@@ -372,7 +417,12 @@ struct Summary {
 
 impl Summary {
     fn add(&mut self, stored: &Stored) {
-        let Stored { answers, plate, .. } = stored;
+        let Stored {
+            answers,
+            inventory,
+            plate,
+            ..
+        } = stored;
         *self.kinds.entry(stored.kind).or_default() += 1;
         for number in answers.fresh.iter().chain(&answers.numbers) {
             self.numbers[*number as usize][0] += 1;
@@ -380,6 +430,13 @@ impl Summary {
         self.numbers[answers.check as usize][1] += 1;
         self.numbers[answers.centre.err().unwrap_or(0) as usize][2] += 1;
         self.numbers[plate.answer.err().unwrap_or(0) as usize][3] += 1;
+        self.numbers[inventory.answer.err().unwrap_or(0) as usize][4] += 1;
+        if let Ok(count) = inventory.answer {
+            let [_, weights, _] = inventory.columns.each_ref().map(Guarded::inside);
+            self.noughts += weights.iter().filter(|weight| **weight == 0).count();
+            let size = [0, 1, 8, 62].iter().filter(|most| count > **most).count();
+            self.arms[size] += 1;
+        }
         self.many_calls += usize::from(stored.calls.len() >= 60);
         for (call, number) in stored.calls.iter().zip(&answers.numbers) {
             match call {
@@ -412,9 +469,13 @@ impl Summary {
         println!("records of version 1 read back: {}", self.old_files);
         let (lent, old) = (self.lent, self.old_lent);
         println!("records lent as they are: {lent}, {old} of them of version 1");
-        println!("number    calls   checks  centres placards");
-        for (number, [calls, checks, centres, placards]) in self.numbers.iter().enumerate() {
-            println!("{number:6} {calls:8} {checks:8} {centres:8} {placards:8}");
+        let [none, one, few, more, most] = self.arms;
+        println!("equipment of no arm: {none}, of one: {one}, of 2 to 8: {few}, of 9 to 62: {more}, of 63: {most}");
+        println!("arms with a net of nought: {}", self.noughts);
+        println!("number    calls   checks  centres placards equipment");
+        for (number, counts) in self.numbers.iter().enumerate() {
+            let [calls, checks, centres, placards, equipment] = counts;
+            println!("{number:6} {calls:8} {checks:8} {centres:8} {placards:8} {equipment:9}");
         }
     }
 }
@@ -436,7 +497,7 @@ fn write(folder: &Path) -> io::Result<()> {
     for stored in choose() {
         summary.add(&stored);
         append(&mut input, &stored.input);
-        expected.push_str(&output(&stored.answers, &stored.plate));
+        expected.push_str(&output(&stored.answers, &stored.inventory, &stored.plate));
     }
     assert!(input.len() <= MOST_INPUT, "{} bytes of input", input.len());
     fs::create_dir_all(folder)?;
@@ -466,6 +527,10 @@ fn main() -> ExitCode {
 #[cfg(test)]
 mod tests {
     use super::*;
+    use judge::run::UNWRITTEN;
+
+    /// The sum of three elements that were not written.
+    const STAYS: u64 = 198_456_851;
 
     /// A case of one weighing, by hand.
     #[test]
@@ -487,15 +552,16 @@ mod tests {
             fresh: true,
             calls: &calls,
             plate: vec![FILL; 1],
+            columns: [1, 0, 2],
         };
         let lines = "Fresh 28\nundo\nweighing 1 2 1 -50001 50001 0\nRead 0aff\n\
-                     Check\nCentre\nPlacard 1\n";
+                     Check\nCentre\nEquipment 1 0 2\nPlacard 1\n";
         assert_eq!(input(&trial), lines);
         let (paper, answers) = trial.run::<Paper>();
-        let plate = trial.placard(&paper);
+        let (inventory, plate) = (trial.equipment(&paper), trial.placard(&paper));
         let sum = sum(&plate.record);
-        let line = format!("0 10 0 12 0 {sum} 0 4 -100002 -25000 8 170\n");
-        assert_eq!(output(&answers, &plate), line);
+        let line = format!("0 10 0 12 0 {sum} 0 4 -100002 -25000 0 0 {STAYS} 8 170\n");
+        assert_eq!(output(&answers, &inventory, &plate), line);
     }
 
     /// A fresh record of version 1 that is lent, and weighed twice.
@@ -518,16 +584,58 @@ mod tests {
             fresh: false,
             calls: &calls,
             plate: Vec::new(),
+            columns: [0; 3],
         };
         let lines = "Fresh 36\nLent 000000020100\npaired 1 1 0 2 1 -1 1 0\n\
-                     Check\nCentre\nPlacard 0\n";
+                     Check\nCentre\nEquipment 0 0 0\nPlacard 0\n";
         assert_eq!(input(&trial), lines);
         let (paper, answers) = trial.run::<Paper>();
-        let plate = trial.placard(&paper);
+        let (inventory, plate) = (trial.equipment(&paper), trial.placard(&paper));
         assert_eq!(plate.record[VERSION], 2);
         let sum = sum(&plate.record);
-        let line = format!("0 0 0 {sum} 0 3 -2 -1 8 0\n");
-        assert_eq!(output(&answers, &plate), line);
+        let line = format!("0 0 0 {sum} 0 3 -2 -1 0 0 0 8 0\n");
+        assert_eq!(output(&answers, &inventory, &plate), line);
+    }
+
+    /// One part ahead of the datum and two behind, one of them taken out again.
+    #[test]
+    fn lines_of_equipment() {
+        let change = |c, arm, flag| Call::Change(Change { c, arm, flag });
+        let (m, p, q, a, b, n) = (1, 100, 0, 0, 1, 50);
+        let calls = [
+            Call::Weigh(Weighing { m, p, q, a, b, n }),
+            change(3, 7, 1),
+            change(5, -7, 0),
+            change(-3, 7, 0),
+        ];
+        let mut trial = Trial {
+            buffer: vec![FILL; 100],
+            fresh: true,
+            calls: &calls,
+            plate: Vec::new(),
+            columns: [2, 3, 2],
+        };
+        let (paper, answers) = trial.run::<Paper>();
+        let plate = trial.placard(&paper);
+        let inventory = trial.equipment(&paper);
+        let columns = inventory.columns.each_ref().map(Guarded::inside);
+        assert_eq!(columns, [&[-7, 7][..], &[5, 0, UNWRITTEN], &[0, 3]]);
+        let sum = sum_of_columns(columns);
+        assert!(output(&answers, &inventory, &plate).contains(&format!(" 0 2 {sum} 8 ")));
+
+        trial.columns = [2, 2, 1];
+        let inventory = trial.equipment(&paper);
+        let columns = inventory.columns.each_ref().map(Guarded::inside);
+        assert_eq!(columns.concat(), [UNWRITTEN; 5]);
+        let sum = sum_of_columns(columns);
+        assert!(output(&answers, &inventory, &plate).contains(&format!(" 11 {sum} 8 ")));
+    }
+
+    #[test]
+    fn the_sum_of_columns() {
+        assert_eq!(sum_of_columns([&[], &[], &[]]), 0);
+        assert_eq!(sum_of_columns([&[2], &[], &[-1]]), 2 * 257 + 1_000_002);
+        assert_eq!(sum_of_columns([&[], &[1_000_003, 5], &[]]), 5);
     }
 
     #[test]

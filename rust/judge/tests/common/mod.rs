@@ -2,7 +2,7 @@
 
 #![allow(dead_code)]
 
-use judge::paper::{Call, Centre, Counts, Journal};
+use judge::paper::{Call, Centre, Columns, Counts, Journal};
 use judge::run::{By, Direct, Fast, Lent};
 
 /// A journal and two lent buffers side by side: every answer is asked of all.
@@ -67,6 +67,34 @@ impl Sides {
         counts
     }
 
+    /// The equipment: an arm, its net weight and its net non-lifting weight, each in a
+    /// line of its own.
+    pub fn equipment(&self) -> Result<Vec<[i64; 3]>, u64> {
+        self.equipment_into([70; 3])
+            .map(|[arms, weights, nonlifting]| {
+                let lines = arms.iter().zip(weights).zip(nonlifting);
+                lines.map(|((a, w), n)| [*a, w, n]).collect()
+            })
+    }
+
+    /// The columns of the equipment as far as they are filled in, lent with so many
+    /// elements; what is behind stays, and where they are refused all of them.
+    pub fn equipment_into(&self, lengths: [usize; 3]) -> Result<[Vec<i64>; 3], u64> {
+        const STAYS: i64 = 7_777_777;
+        let lent = [(); 3].map(|()| lengths.map(|length| vec![STAYS; length]));
+        let [mut columns, mut direct, mut fast] = lent;
+        let answer = self.journal.equipment(by_name(&mut columns));
+        assert_eq!(self.direct.equipment(by_name(&mut direct)), answer);
+        assert_eq!(self.fast.equipment(by_name(&mut fast)), answer);
+        assert!(columns == direct && columns == fast);
+        let count = answer.unwrap_or(0);
+        for column in &mut columns {
+            let stays = column.split_off(count);
+            assert!(stays.iter().all(|element| *element == STAYS));
+        }
+        answer.map(|_| columns)
+    }
+
     /// The placard's lines.
     pub fn placard_text(&self) -> String {
         let mut out = vec![0; 9_216];
@@ -74,5 +102,14 @@ impl Sides {
         self.journal.placard(&mut out).unwrap();
         out.truncate(counts.bytes);
         String::from_utf8(out).unwrap()
+    }
+}
+
+fn by_name(columns: &mut [Vec<i64>; 3]) -> Columns<'_> {
+    let [arms, weights, nonlifting] = columns;
+    Columns {
+        arms,
+        weights,
+        nonlifting,
     }
 }

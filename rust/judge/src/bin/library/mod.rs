@@ -1,7 +1,7 @@
 //! The proved library by its safe calls on lent buffers, for the programs that
 //! compare and time it.
 
-use judge::paper::{Call, Centre, Change, Counts, Paired, Seat, Sheet, Weighing};
+use judge::paper::{Call, Centre, Change, Columns, Counts, Paired, Seat, Sheet, Weighing};
 use judge::run::Calls;
 use nodhulika::{lent, Refusal, Station};
 
@@ -45,6 +45,15 @@ impl Calls for Library {
             rows: given.rows,
             blank: given.blank,
         })
+    }
+
+    fn equipment(buffer: &[u8], columns: Columns) -> Result<usize, u64> {
+        let Columns {
+            arms,
+            weights,
+            nonlifting,
+        } = columns;
+        lent::equipment(buffer, arms, weights, nonlifting).map_err(Refusal::number)
     }
 }
 

@@ -1,0 +1,2 @@
+-- The equipment that is found in a file.
+pub mod Equipped

@@ -1,0 +1,2 @@
+-- How many arms a record can have.
+pub mod Most

@@ -1,0 +1,2 @@
+-- The schedule of equipment.
+pub mod Schedules

@@ -1,0 +1,2 @@
+-- One change more at an arm.
+pub mod More

@@ -1,0 +1,3 @@
+#![tactic(auto)]
+
+// Equipment by station: laws in proofs/, no code.
