@@ -73,7 +73,7 @@ use Rattle.book.proofs.read.Reads as read-book
 use Rattle.listing.proofs.show.Reads as show
 use Rattle.listing.proofs.ReadAgain as read_again
 use Rattle.worked.specs.Table.{table, Says, a_to_k}
-use Rattle.worked.specs.Stations.{ten, twelve_less, more_first, less_first, same_changes, more_first_accepted, less_first_refused, less_first_number}
+use Rattle.worked.specs.Stations.{early, late, early_late, early_accepted, late_accepted, ten, twelve_less, more_first, less_first, same_changes, more_first_accepted, less_first_refused, less_first_number}
 use Rattle.claim.specs.Demand3 as claim
 use Rattle.claim.specs.Demand3.{Demand3, EachReading}
 use Rattle.claim.specs.RecordCalls as on-record
@@ -211,6 +211,10 @@ pub same_lent_equipment : (es fs : List Entry) → SameButOrder es fs
     → library-equipment.Post κs (b, (x, (y, (z, (d, tt))))) n (b', (x', (y', (z', (d', tt))))) → library-equipment.Post λs (c, (u, (v, (w, (e, tt))))) m (c', (u', (v', (w', (e', tt)))))
     → ◌≡◌ {A = ℕ × List ℤ × List ℤ × List ℤ × ℕ} (n, x'.now, y'.now, z'.now, d'.now) (m, u'.now, v'.now, w'.now, e'.now)
 same_lent_equipment = by-station.same_lent_equipment
+
+-- It is about something: two such lists, with changes in turn and before and behind sheet and seat, are both accepted.
+pub another_order : SameButOrder early late × (accepted early ≡ true) × (accepted late ≡ true)
+another_order = (early_late, early_accepted, late_accepted)
 
 -- Whether the entries are accepted does depend on the order: at G 10 g, 5 g more and then 12 g less is, 12 g less first is refused
 -- as 6.

@@ -16,7 +16,7 @@ use paper::{Equipment, Refusal};
 // Room for every schedule: 64 lines of at most 77 bytes, and the sums with at most 56.
 pub const LONGEST: usize = 4984;
 
-pub type Text = ArrayString<LONGEST>;
+type Text = ArrayString<LONGEST>;
 
 // The decimals of a length in millimetres.
 const HUNDREDTHS: u32 = 2;
@@ -107,7 +107,7 @@ fn put_sums(text: &mut Text, items: &[Equipment])
 }
 
 // The schedule of a list.
-pub fn schedule_of(items: &[Equipment]) -> Text
+fn schedule_of(items: &[Equipment]) -> Text
     requires { Few items.now }
     ensures { result.bytes ≡ schedule items.now }
 {

@@ -1,5 +1,5 @@
--- Equipment by station worked through, and two lists that have the same changes in another order, of which calls give one alone.
--- Each is computed from the definitions.
+-- Equipment by station worked through, and lists that have the same changes in another order: two that calls give, and two of which
+-- calls give one alone. Each is computed from the definitions.
 use Rattle.std.specs.Prelude.{◌≡◌, refl, true, false, List, [], ◌∷◌, ℕ, ℤ, pos}
 use Rattle.std.proofs.Math.Option.{or_else}
 use Rattle.std.proofs.lemmas.List.Sorted.{IsPermutation-refl, IsPermutation-swap}
@@ -8,10 +8,11 @@ use Rattle.paper.specs.declared.Entry.{Entry}
 use Rattle.paper.specs.declared.Entry.TheVariants as entry
 use Rattle.paper.specs.declared.Equipment.{Equipment}
 use Rattle.paper.specs.Units.{is_weight, is_arm, half_grams}
-use Rattle.paper.specs.Record.{total_of, moment_of, weighed, with, changed, changed_by, changes_of, last_weighing, balance_of, is_none}
+use Rattle.paper.specs.Record.{total_of, moment_of, weighed, with, changed, changed_by, changes_of, last_weighing, balance_of, is_none, sheet_of, sheet_stands}
 use Rattle.paper.specs.Equipment.{total, fitted, equipment_at, foremost, arms_to, arms_of, equipment_of, unchanging, stretches, SameButOrder}
-use Rattle.paper.specs.Refusals.{first_number, full, bad_reading, bad_distance, bad_part, weighing_faults, weighing_number, is_total, is_non_lifting, is_change, afterwards, bad_change, change_faults, change_number, entry_number, accepted_after, accepted}
-use Rattle.worked.specs.Plates.{minus, weighing, G, astir}
+use Rattle.paper.specs.Rows.{row_count}
+use Rattle.paper.specs.Refusals.{first_number, full, bad_reading, bad_distance, bad_part, weighing_faults, weighing_number, bad_arms, bad_ranges, bad_rows, sheet_faults, sheet_number, bad_ends, seat_faults, seat_number, is_total, is_non_lifting, is_change, afterwards, bad_change, change_faults, change_number, entry_number, accepted_after, accepted}
+use Rattle.worked.specs.Plates.{minus, weighing, G, astir, astir_sheet, seat}
 
 change : ℤ → ℤ → ℕ → Entry
 change c arm flag = entry.Change (record { c = c; arm = arm; flag = flag })
@@ -39,6 +40,42 @@ by_station = refl
 none_behind : equipment_of (fitted (entry.Weighing astir ∷ change (pos 9000) (pos 100) 1 ∷ G)) ≡ []
 unfolding equipment_of fitted arms_of arms_to foremost equipment_at total last_weighing changes_of or_else change
 none_behind = refl
+
+-- ---- two lists that calls give, with the same two changes, in turn and before and behind sheet and seat
+
+nose_part : Entry
+unfolding change
+nose_part = change (pos 4500) (minus 100000) 1
+
+tail_part : Entry
+unfolding change
+tail_part = change (minus 300) (pos 2000) 0
+
+pub early : List Entry
+unfolding nose_part tail_part
+early =
+    entry.Weighing astir ∷ nose_part ∷ entry.Sheet (astir_sheet (minus 47500)) ∷ tail_part ∷ seat (minus 50000) (pos 45000) ∷ []
+
+pub late : List Entry
+unfolding nose_part tail_part
+late =
+    entry.Weighing astir ∷ entry.Sheet (astir_sheet (minus 47500)) ∷ seat (minus 50000) (pos 45000) ∷ tail_part ∷ nose_part ∷ []
+
+pub early_late : SameButOrder early late
+unfolding unchanging stretches early late nose_part tail_part change
+early_late =
+    record {
+      others = refl;
+      changes = (IsPermutation-refl [], (IsPermutation-swap _ _ 0 1 (omega arith) (omega arith) refl, tt));
+    }
+
+pub early_accepted : accepted early ≡ true
+unfolding accepted accepted_after entry_number weighing_number sheet_number change_number seat_number weighing_faults sheet_faults change_faults seat_faults bad_ends sheet_stands sheet_of first_number full bad_reading bad_distance bad_part bad_arms bad_ranges bad_rows row_count is_weight is_arm total_of moment_of weighed with changed changed_by changes_of last_weighing balance_of is_none is_total is_non_lifting is_change afterwards bad_change half_grams or_else early nose_part tail_part change
+early_accepted = refl
+
+pub late_accepted : accepted late ≡ true
+unfolding accepted accepted_after entry_number weighing_number sheet_number change_number seat_number weighing_faults sheet_faults change_faults seat_faults bad_ends sheet_stands sheet_of first_number full bad_reading bad_distance bad_part bad_arms bad_ranges bad_rows row_count is_weight is_arm total_of moment_of weighed with changed changed_by changes_of last_weighing balance_of is_none is_total is_non_lifting is_change afterwards bad_change half_grams or_else late nose_part tail_part change
+late_accepted = refl
 
 -- ---- G 10: 5 more and then 12 less is accepted, 12 less first is refused as 6
 
