@@ -6,7 +6,9 @@
  * millimetre. An arm is positive aft of the datum unless it is said otherwise.
  * A moment is weight times arm. Everywhere a weight is at most 2,000,000 and an
  * arm lies in -2,000,000..2,000,000. Any value may be given: what is out of its
- * range is refused. Only nodhulika_centre answers in half grams.
+ * range is refused. Only nodhulika_centre answers in half grams, and only
+ * nodhulika_weigh_indicated takes kilograms, as a load cell and its indicator
+ * have them; no number of theirs is kept, only whole grams.
  *
  * A record is the list of a glider's accepted entries, at most 64: weighings,
  * plain and paired, data sheets, changes and adjustable seats. It is lent as
@@ -31,7 +33,8 @@
  * every array of it is; a count is a pointer to one number. No pointer may be
  * null; each must be valid for its length, even where the length is 0; no length
  * may come to more than PTRDIFF_MAX bytes; the buffers, the columns and the count
- * of one call must not overlap. Where this is not kept, the behaviour is
+ * of one call must not overlap, but for the messages of an indicator, which are
+ * only read and may overlap one another. Where this is not kept, the behaviour is
  * undefined.
  */
 #ifndef NODHULIKA_H
@@ -68,8 +71,8 @@ extern "C" {
 #define NODHULIKA_MOST_ARMS 63
 
 /* What the functions answer. G is the glider's empty total, n its non-lifting
- * weight. Of a paired weighing it is enough that a condition holds of one
- * reading. */
+ * weight. Of a paired weighing it is enough that a condition holds of one of its
+ * two readings, of one that an indicator sends, of one of its four messages. */
 enum nodhulika_refusal {
     /* Accepted. */
     NODHULIKA_OK = 0,
@@ -99,7 +102,14 @@ enum nodhulika_refusal {
     /* A buffer or a column is shorter than what would be written to it. */
     NODHULIKA_SHORT = 11,
     /* The bytes are not the file of any record that accepted calls give. */
-    NODHULIKA_FILE = 12
+    NODHULIKA_FILE = 12,
+    /* A message of an indicator is not of nine bytes, has a state other than 1 to
+     * 3, or is moving or over. */
+    NODHULIKA_UNSTEADY = 13,
+    /* A cell's rating, its zero or a reading of an indicator is not finite; the
+     * reading is below nought, above the rating or above 2000 kg; the zero is
+     * below nought or above 2000 kg; or the net is below nought. */
+    NODHULIKA_LOAD = 14
 };
 
 /*
@@ -175,6 +185,56 @@ uint64_t nodhulika_weigh_paired(uint8_t *buffer, size_t buffer_length,
                                 uint64_t m, uint64_t p, uint64_t q,
                                 uint64_t p2, uint64_t q2,
                                 int64_t a, uint64_t b, uint64_t n);
+
+/*
+ * Adds a paired weighing to the record as a load-cell indicator sends it: four
+ * messages, each with the cell that it is of. What is added is an ordinary paired
+ * weighing of the four nets, as nodhulika_weigh_paired adds it; nothing of the
+ * cells and of the numbers that were sent is kept.
+ *
+ * A message is nine bytes: the state, 1 stable, 2 moving or 3 over, and then the
+ * reading in kilograms, a binary64, as a double is, with its highest byte first.
+ * Only stable readings are taken. A cell has its rating, which is the most that it may show,
+ * and its zero, which is what it shows without the glider, both in kilograms.
+ *
+ * A reading becomes whole grams: the whole number nearest to its exact value
+ * times 1000, of two that are as near the even one. It is rounded once, from the
+ * exact value, and not from a product that was itself rounded: 0.0025 lies above
+ * two and a half grams and is 3 g, 0.0055 lies below five and a half and is 5 g,
+ * and 0.0625, which is 62.5 g exactly, is 62 g. A zero's grams are found alike.
+ * The net is the reading's grams with the zero's taken off. Of q and q2 in method
+ * 4 it is the zero's with the reading's taken off: the zero of that cell holds the
+ * jury ballast, and the net is the lift. Minus nought is nought.
+ *
+ * buffer: the record; 30 bytes behind its file are written, and its header.
+ * m: the method, 1..4. In any other nothing is turned round, and the nets are
+ *    tested before m is.
+ * p, q: the messages of the first readings, each with its length in bytes; any
+ *    other than 9 is NODHULIKA_UNSTEADY.
+ * p2, q2: the messages of the second ones.
+ * p_rated, q_rated, p2_rated, q2_rated: the rating of the cell that each is of.
+ *    It is compared with the reading as it was sent, before it is rounded and
+ *    before the zero is taken off; it may be above 2000 kg, and the zero above it.
+ * p_zero, q_zero, p2_zero, q2_zero: the cell's zero, 0..2000 kg.
+ * a, b: the distances, as with nodhulika_weigh.
+ * n: the weight of the non-lifting parts, in g, as with nodhulika_weigh_paired.
+ *
+ * Answers NODHULIKA_OK or, in this order, NODHULIKA_FILE, NODHULIKA_UNSTEADY (of
+ * any of the four before NODHULIKA_LOAD of any), NODHULIKA_LOAD, NODHULIKA_FULL,
+ * NODHULIKA_READING, NODHULIKA_ARM, NODHULIKA_NON_LIFTING, NODHULIKA_SHORT.
+ */
+NODHULIKA_MUST_USE
+uint64_t nodhulika_weigh_indicated(uint8_t *buffer, size_t buffer_length,
+                                   uint64_t m,
+                                   const uint8_t *p, size_t p_length,
+                                   double p_rated, double p_zero,
+                                   const uint8_t *q, size_t q_length,
+                                   double q_rated, double q_zero,
+                                   const uint8_t *p2, size_t p2_length,
+                                   double p2_rated, double p2_zero,
+                                   const uint8_t *q2, size_t q2_length,
+                                   double q2_rated, double q2_zero,
+                                   int64_t a, uint64_t b, uint64_t n);
 
 /*
  * Adds a data sheet to the record; the last one is in force. The placard has a

@@ -10,6 +10,9 @@ from plates import LAX, drawn, level
 # What every element of a column is before the call, and how many behind the lent ones are looked at.
 UNWRITTEN, BEHIND = -1000000007, 2
 
+# A program reads its cases in one, so many bytes at the most.
+MOST_TAKEN = 65536
+
 # Columns of the longest length, and the most arms.
 LONG, MOST_ARMS = 70, 63
 
@@ -70,8 +73,8 @@ def shown(column):
     return " ".join("_" if element == UNWRITTEN else str(element) for element in column)
 
 
-class Lines:
-    """The lines that the program takes and those that it prints. A case goes on from the record that the one before left."""
+class Cases:
+    """The lines that a program takes and those that it prints. A case goes on from the record that the one before left."""
 
     def __init__(self):
         self.journal = FRESH
@@ -80,6 +83,19 @@ class Lines:
     def note(self, text):
         self.taken.append(f"# {text}")
 
+    def told_apart(self):
+        """The same, where no two labels are alike."""
+        labels = [line.split(": ")[0] for line in self.printed]
+        assert len(set(labels)) == len(labels), [label for label in labels if labels.count(label) > 1]
+        return self
+
+    def print_taken(self):
+        text = "".join(f"{line}\n" for line in self.taken)
+        assert len(text) <= MOST_TAKEN, len(text)
+        print(text, end="")
+
+
+class Lines(Cases):
     def case(self, label, lengths, *steps):
         """The calls, and then the equipment in columns of these lengths; the last number, and the equipment's."""
         last = 0
@@ -327,19 +343,11 @@ def lines():
     weighings(out)
     between(out)
     by_lot(out)
-    labels = [line.split(": ")[0] for line in out.printed]
-    assert len(set(labels)) == len(labels), [label for label in labels if labels.count(label) > 1]
-    return out
-
-
-# The program reads its cases in one.
-MOST_TAKEN = 65536
+    return out.told_apart()
 
 
 def taken():
-    text = "".join(f"{line}\n" for line in lines().taken)
-    assert len(text) <= MOST_TAKEN
-    print(text, end="")
+    lines().print_taken()
 
 
 def report():

@@ -1,4 +1,5 @@
-"""An independent reckoning of paper 01 and of paper 02's cards 1, 2, 4 and 5 in whole numbers, to hold the programs against.
+"""An independent reckoning of paper 01 and of paper 02's cards 1, 2, 4, 5 and 6 in whole numbers and fractions, to hold the
+programs against.
 
     python3 tools/oracle.py cases > crates/cases/stdout
     python3 tools/oracle.py files > crates/files/stdout
@@ -8,6 +9,8 @@
     python3 tools/oracle.py logbook-cases > crates/logbooks/stdin
     python3 tools/oracle.py inventories > crates/inventories/stdout
     python3 tools/oracle.py inventory-cases > crates/inventories/stdin
+    python3 tools/oracle.py indicators > crates/indicators/stdout
+    python3 tools/oracle.py indicator-cases > crates/indicators/stdin
     python3 tools/oracle.py sample-texts    (writes samples/*.placard and samples/*.equipment)
     python3 tools/oracle.py programs    (writes stdin and stdout of placard, full_file, long_file, full_plate, show, equipment,
                                          logbook_to_record)
@@ -17,6 +20,7 @@ accepted, and the journal afterwards.
 """
 
 import sys
+from fractions import Fraction
 from typing import NamedTuple
 
 # Weights are grams, arms hundredths of a millimetre. A balance is in half grams, since it sums two readings.
@@ -30,6 +34,7 @@ MOST_ENTRIES = 64
 # Numbers of refusal.
 READING, ARM, NONLIFTING, SHEET, ROWS, CHANGE = 1, 2, 3, 4, 5, 6
 UNWEIGHED, NO_SHEET, FULL, BARE, SHORT, FILE = 7, 8, 9, 10, 11, 12
+UNSTEADY, LOAD = 13, 14
 
 
 # The entries, their fields in the order of the file.
@@ -284,6 +289,85 @@ def centre_of_gravity(journal):
     return 0, total, moment, (2 * moment + total) // (2 * total)
 
 
+# Weighing by an indicator. A float is the pattern of its 64 bits; what it is worth is reckoned in fractions.
+
+MOST_LOAD = 2000
+STABLE, MOVING, OVER = 1, 2, 3
+MESSAGE_LENGTH = 9
+
+
+class Cell(NamedTuple):
+    """The floats of its rated kilograms and of its zero."""
+
+    rated: int
+    zero: int
+
+
+class Message(NamedTuple):
+    """The bytes of a reading, and the cell that it is of."""
+
+    data: bytes
+    cell: Cell
+
+
+class Indicated(NamedTuple):
+    """A paired weighing with a message for each reading."""
+
+    m: int
+    p: Message
+    q: Message
+    p2: Message
+    q2: Message
+    a: int
+    b: int
+    n: int
+
+
+def worth(pattern):
+    """The number that a pattern stands for, or None for an infinity or a NaN."""
+    negative, exponent, digits = pattern >> 63, (pattern >> 52) % 2048, pattern % 2**52
+    if exponent == 2047:
+        return None
+    size = Fraction(2**52 * (exponent > 0) + digits) * Fraction(2) ** (max(exponent, 1) - 1075)
+    return -size if negative else size
+
+
+def is_load(kilograms):
+    return kilograms is not None and 0 <= kilograms <= MOST_LOAD
+
+
+def in_grams(kilograms):
+    """To the nearest whole gram, from a tie to the even one."""
+    return round(1000 * kilograms)
+
+
+def is_steady(message):
+    return len(message.data) == MESSAGE_LENGTH and message.data[0] == STABLE
+
+
+def net_of(message, turned):
+    """The grams of a steady reading less those of its zero, or the other way round; None where the rating, the reading or the
+    zero is out of range, or what is left is below nought."""
+    reading, rated, zero = map(worth, (int.from_bytes(message.data[1:], "big"), *message.cell))
+    if rated is None or not is_load(reading) or not is_load(zero) or reading > rated:
+        return None
+    loaded, empty = in_grams(reading), in_grams(zero)
+    net = empty - loaded if turned else loaded - empty
+    return net if net >= 0 else None
+
+
+def indicate(journal, x):
+    """What is asked of its four readings comes before what is asked of the paired weighing that they feed."""
+    held_down = x.m == 4
+    messages = ((x.p, False), (x.q, held_down), (x.p2, False), (x.q2, held_down))
+    if not all(is_steady(message) for message, _ in messages):
+        return UNSTEADY, journal
+    nets = [net_of(message, turned) for message, turned in messages]
+    if None in nets:
+        return LOAD, journal
+    return add(journal, Paired(x.m, *nets, x.a, x.b, x.n))
+
+
 # The file.
 
 # The version that is written, and the last kind of entry that each version has.
@@ -491,6 +575,7 @@ if __name__ == "__main__":
     sys.dont_write_bytecode = True
     import cases
     import files
+    import indicators
     import inventories
     import logbooks
     import plates
@@ -505,6 +590,8 @@ if __name__ == "__main__":
         "logbook-cases": logbooks.cases_taken,
         "inventories": inventories.report,
         "inventory-cases": inventories.taken,
+        "indicators": indicators.report,
+        "indicator-cases": indicators.taken,
         "sample-texts": logbooks.texts,
         "programs": programs.write,
     }

@@ -14,9 +14,11 @@ use Prim.Native.Nat.{ℕ, ◌+◌, ◌/◌, ◌≤◌, ◌<◌}
 use native.Mathlib.Omega.{arith}
 use Rattle.std.proofs.Math.ListN.{length}
 use Rattle.std.specs.Borrow.{Bor, MutBor}
+use Rattle.std.specs.Float.{Float}
 use Rattle.laws.specs.Tests.{right}
 use Rattle.paper.specs.declared.Weighing.{Weighing}
 use Rattle.paper.specs.declared.Paired.{Paired}
+use Rattle.paper.specs.declared.Indicated.{Indicated}
 use Rattle.paper.specs.declared.Sheet.{Sheet}
 use Rattle.paper.specs.declared.Change.{Change}
 use Rattle.paper.specs.declared.Seat.{Seat}
@@ -24,6 +26,7 @@ use Rattle.paper.specs.declared.Placard.{Placard}
 use Rattle.paper.specs.declared.Refusal.{Refusal}
 use Rattle.paper.specs.Numbers.{number_in as answer_number}
 use Rattle.paper.specs.declared.Entry.{Entry}
+use Rattle.paper.specs.Indicator.{sent_by}
 use Rattle.paper.specs.Journal as journal
 use Rattle.paper.specs.Journal.{Call, journal_by, numbers_by}
 use Rattle.paper.specs.Record.{sheet_of, weighing_stands, sheet_stands}
@@ -39,6 +42,7 @@ use Rattle.nodhulika.specs.Exported.{answer_length, counts_over, placard_into}
 use Rattle.nodhulika.proofs.nodhulika_fresh.Reads as fresh
 use Rattle.nodhulika.proofs.nodhulika_weigh.Reads as weigh
 use Rattle.nodhulika.proofs.nodhulika_weigh_paired.Reads as pair
+use Rattle.nodhulika.proofs.nodhulika_weigh_indicated.Reads as indicate
 use Rattle.nodhulika.proofs.nodhulika_sheet.Reads as sheet
 use Rattle.nodhulika.proofs.nodhulika_change.Reads as change
 use Rattle.nodhulika.proofs.nodhulika_seat.Reads as seat
@@ -49,7 +53,7 @@ use Rattle.claim.specs.Buffers.{Holds, Leaves, fresh_leaves, call_leaves, read_l
 use Rattle.claim.specs.Calls.{journal-more, numbers_more}
 use Rattle.claim.specs.Endings.{Ending, refused, printed, ending}
 use Rattle.claim.specs.Demand3.{Demand3}
-use Rattle.claim.specs.RecordCalls.{slice_of, buffer_of}
+use Rattle.claim.specs.RecordCalls.{slice_of, buffer_of, indicated}
 
 -- the arguments of a call behind its buffer, which it leaves as they are
 abbrev pub weighing_args : Weighing → ℕ × (ℕ × (ℕ × (ℤ × (ℕ × (ℕ × Unit {0})))))
@@ -57,6 +61,11 @@ weighing_args w = (w.m, (w.p, (w.q, (w.a, (w.b, (w.n, tt))))))
 
 abbrev pub paired_args : Paired → ℕ × (ℕ × (ℕ × (ℕ × (ℕ × (ℤ × (ℕ × (ℕ × Unit {0})))))))
 paired_args x = (x.m, (x.p, (x.q, (x.p2, (x.q2, (x.a, (x.b, (x.n, tt))))))))
+
+-- an indicator's messages are lent: of them as a call leaves them the trace asks nothing
+abbrev pub indicated_args : Indicated → ℕ × (Bor (List ℕ) × (Float × (Float × (Bor (List ℕ) × (Float × (Float × (Bor (List ℕ) × (Float × (Float × (Bor (List ℕ) × (Float × (Float × (ℤ × (ℕ × (ℕ × Unit {0})))))))))))))))
+indicated_args x =
+    (x.m, (x.p.bytes, (x.p.cell.rated, (x.p.cell.zero, (x.q.bytes, (x.q.cell.rated, (x.q.cell.zero, (x.p2.bytes, (x.p2.cell.rated, (x.p2.cell.zero, (x.q2.bytes, (x.q2.cell.rated, (x.q2.cell.zero, (x.a, (x.b, (x.n, tt))))))))))))))))
 
 abbrev pub sheet_args : Sheet → ℤ × (ℤ × (ℕ × (ℕ × (ℕ × (ℤ × (ℕ × (ℕ × (ℕ × (ℤ × (ℕ × (ℕ × (ℤ × (ℕ × (ℕ × Unit {0}))))))))))))))
 sheet_args s =
@@ -77,6 +86,8 @@ pub data Trace : ℕ → List Call → List ℕ → List ℕ → Type 0 where
       → (w : Weighing) (κs : _) (o o' : MutBor (List ℕ)) (k : ℕ) → o.now ≡ buffer → weigh.Post κs (o, weighing_args w) k (o', weighing_args w) → Trace n (calls ++ journal.weigh w ∷ []) o'.now (answers ++ k ∷ [])
   then_pair : {n : ℕ} {calls : List Call} {buffer answers : List ℕ} → Trace n calls buffer answers
       → (x : Paired) (κs : _) (o o' : MutBor (List ℕ)) (k : ℕ) → o.now ≡ buffer → pair.Post κs (o, paired_args x) k (o', paired_args x) → Trace n (calls ++ journal.pair x ∷ []) o'.now (answers ++ k ∷ [])
+  then_indicate : {n : ℕ} {calls : List Call} {buffer answers : List ℕ} → Trace n calls buffer answers
+      → (x x' : Indicated) (κs : _) (o o' : MutBor (List ℕ)) (k : ℕ) → o.now ≡ buffer → indicate.Post κs (o, indicated_args x) k (o', indicated_args x') → Trace n (calls ++ journal.indicate (sent_by x) ∷ []) o'.now (answers ++ k ∷ [])
   then_sheet : {n : ℕ} {calls : List Call} {buffer answers : List ℕ} → Trace n calls buffer answers
       → (s : Sheet) (κs : _) (o o' : MutBor (List ℕ)) (k : ℕ) → o.now ≡ buffer → sheet.Post κs (o, sheet_args s) k (o', sheet_args s) → Trace n (calls ++ journal.install s ∷ []) o'.now (answers ++ k ∷ [])
   then_change : {n : ℕ} {calls : List Call} {buffer answers : List ℕ} → Trace n calls buffer answers
@@ -109,7 +120,7 @@ one_more {n} {calls} {buffer} {answers} x k left p f e l =
       numbers = rw (number, f.numbers) (sym (numbers_more (number_in n) [] calls x));
     }
 
--- a weighing, plain or paired, a sheet, a change, a seat or taking back
+-- a weighing of any sort, a sheet, a change, a seat or taking back
 called : {n : ℕ} {calls : List Call} {buffer answers : List ℕ} (x : Call) (k : ℕ) (before left : List ℕ) → Follows n calls buffer answers → before ≡ buffer → (k, left) ≡ lent_call x before → Follows n (calls ++ x ∷ []) left (answers ++ k ∷ [])
 called {n} {calls} {buffer} x k before left f b e =
     one_more x k left (lent_call x buffer) f (rw b at e) (call_leaves n (journal_in n calls) buffer f.holds x)
@@ -119,9 +130,11 @@ read_back {n} {calls} {buffer} xs k before left f b e =
     one_more (journal.read xs) k left (lent_read xs buffer) f (rw b at e) (read_leaves n (journal_in n calls) buffer f.holds xs)
 
 pub follows : {n : ℕ} {calls : List Call} {buffer answers : List ℕ} → Trace n calls buffer answers → Follows n calls buffer answers
+unfolding sent_by
 follows (from_fresh κs o o' h) = none_yet o.now o'.now h
 follows (then_weigh t w κs o o' k b h) = called (journal.weigh w) k o.now o'.now (follows t) b h
 follows (then_pair t x κs o o' k b h) = called (journal.pair x) k o.now o'.now (follows t) b h
+follows (then_indicate t x x' κs o o' k b h) = called (journal.indicate (sent_by x)) k o.now o'.now (follows t) b h
 follows (then_sheet t s κs o o' k b h) = called (journal.install s) k o.now o'.now (follows t) b h
 follows (then_change t x κs o o' k b h) = called (journal.change x) k o.now o'.now (follows t) b h
 follows (then_seat t f κs o o' k b h) = called (journal.seat f) k o.now o'.now (follows t) b h
@@ -177,6 +190,7 @@ fresh_fits s h = rw (file_put [] s (omega (arith, file_length [])))
 abbrev after : Call → List ℕ → ℕ × List ℕ
 after (journal.weigh w) s = lent_call (journal.weigh w) s
 after (journal.pair x) s = lent_call (journal.pair x) s
+after (journal.indicate x) s = lent_call (journal.indicate x) s
 after (journal.install t) s = lent_call (journal.install t) s
 after (journal.change x) s = lent_call (journal.change x) s
 after (journal.seat f) s = lent_call (journal.seat f) s
@@ -184,8 +198,10 @@ after journal.undo s = lent_call journal.undo s
 after (journal.read xs) s = lent_read xs s
 
 next : {n : ℕ} {calls : List Call} {buffer answers : List ℕ} (x : Call) → Trace n calls buffer answers → Trace n (calls ++ x ∷ []) (after x buffer).1 (answers ++ (after x buffer).0 ∷ [])
+unfolding sent_by
 next {buffer = s} (journal.weigh w) t = then_weigh t w ([], tt) (buffer_of s) (buffer_of (after (journal.weigh w) s).1) _ refl refl
 next {buffer = s} (journal.pair x) t = then_pair t x ([], tt) (buffer_of s) (buffer_of (after (journal.pair x) s).1) _ refl refl
+next {buffer = s} (journal.indicate x) t = then_indicate t (indicated x) (indicated x) ([], ([], ([], ([], ([], tt))))) (buffer_of s) (buffer_of (after (journal.indicate x) s).1) _ refl refl
 next {buffer = s} (journal.install u) t = then_sheet t u ([], tt) (buffer_of s) (buffer_of (after (journal.install u) s).1) _ refl refl
 next {buffer = s} (journal.change x) t = then_change t x ([], tt) (buffer_of s) (buffer_of (after (journal.change x) s).1) _ refl refl
 next {buffer = s} (journal.seat f) t = then_seat t f ([], tt) (buffer_of s) (buffer_of (after (journal.seat f) s).1) _ refl refl

@@ -10,20 +10,24 @@ use Rattle.std.proofs.Common.{append_assoc, append-nil}
 use Rattle.std.specs.Borrow.{Bor, MutBor}
 use Rattle.paper.specs.declared.Weighing.{Weighing}
 use Rattle.paper.specs.declared.Paired.{Paired}
+use Rattle.paper.specs.declared.Message.{Message}
+use Rattle.paper.specs.declared.Indicated.{Indicated}
 use Rattle.paper.specs.declared.Sheet.{Sheet}
 use Rattle.paper.specs.declared.Change.{Change}
 use Rattle.paper.specs.declared.Seat.{Seat}
 use Rattle.paper.specs.declared.Placard.{Placard}
 use Rattle.paper.specs.declared.Refusal.{Refusal}
 use Rattle.paper.specs.Numbers.{number_in}
+use Rattle.paper.specs.Indicator.{Sent, SentWeighing, sent_by}
 use Rattle.paper.specs.Journal as journal
-use Rattle.paper.specs.Journal.{Call, journal, numbers}
+use Rattle.paper.specs.Journal.{Call}
 use Rattle.paper.specs.Answers.{placard_answer}
 use Rattle.record.specs.declared.Record.{Record}
 use Rattle.record.specs.Held.{record_of, held_by, answered}
 use Rattle.record.proofs.Record.fresh.Reads as fresh
 use Rattle.record.proofs.Record.weigh.Reads as weigh
 use Rattle.record.proofs.Record.weigh_paired.Reads as pair
+use Rattle.record.proofs.Record.weigh_indicated.Reads as indicate
 use Rattle.record.proofs.Record.install.Reads as install
 use Rattle.record.proofs.Record.change.Reads as change
 use Rattle.record.proofs.Record.adjust_seat.Reads as seat
@@ -40,6 +44,8 @@ pub data Trace : List Call → Record → List ℕ → Type 0 where
       → (w : Weighing) (κs : _) (q q' : MutBor Record) (k : Result (Unit {0}) Refusal) → q.now ≡ r → weigh.Post κs (q, (w, tt)) k (q', (w, tt)) → Trace (calls ++ journal.weigh w ∷ []) q'.now (answers ++ number_in k ∷ [])
   then_pair : {calls : List Call} {r : Record} {answers : List ℕ} → Trace calls r answers
       → (x : Paired) (κs : _) (q q' : MutBor Record) (k : Result (Unit {0}) Refusal) → q.now ≡ r → pair.Post κs (q, (x, tt)) k (q', (x, tt)) → Trace (calls ++ journal.pair x ∷ []) q'.now (answers ++ number_in k ∷ [])
+  then_indicate : {calls : List Call} {r : Record} {answers : List ℕ} → Trace calls r answers
+      → (x x' : Indicated) (κs : _) (q q' : MutBor Record) (k : Result (Unit {0}) Refusal) → q.now ≡ r → indicate.Post κs (q, (x, tt)) k (q', (x', tt)) → Trace (calls ++ journal.indicate (sent_by x) ∷ []) q'.now (answers ++ number_in k ∷ [])
   then_install : {calls : List Call} {r : Record} {answers : List ℕ} → Trace calls r answers
       → (s : Sheet) (κs : _) (q q' : MutBor Record) (k : Result (Unit {0}) Refusal) → q.now ≡ r → install.Post κs (q, (s, tt)) k (q', (s, tt)) → Trace (calls ++ journal.install s ∷ []) q'.now (answers ++ number_in k ∷ [])
   then_change : {calls : List Call} {r : Record} {answers : List ℕ} → Trace calls r answers
@@ -55,6 +61,7 @@ pub follows : {calls : List Call} {r : Record} {answers : List ℕ} → Trace ca
 follows (from_fresh r h) = none_yet r h
 follows (then_weigh t w κs q q' k b h) = one_more (journal.weigh w) q.now q'.now k (follows t) b h
 follows (then_pair t x κs q q' k b h) = one_more (journal.pair x) q.now q'.now k (follows t) b h
+follows (then_indicate t x x' κs q q' k b h) = one_more (journal.indicate (sent_by x)) q.now q'.now k (follows t) b h
 follows (then_install t s κs q q' k b h) = one_more (journal.install s) q.now q'.now k (follows t) b h
 follows (then_change t x κs q q' k b h) = one_more (journal.change x) q.now q'.now k (follows t) b h
 follows (then_seat t f κs q q' k b h) = one_more (journal.seat f) q.now q'.now k (follows t) b h
@@ -91,10 +98,29 @@ buffer_of xs = record { ref_ptr = (0, 0); ghost_name = 0; now = xs }
 abbrev pub record_lent : Record → MutBor Record
 record_lent r = record { ref_ptr = (0, 0); ghost_name = 0; now = r }
 
+-- an indicator's weighing as it is lent to a call
+abbrev lent_sent : Sent → Message
+lent_sent s = record { bytes = slice_of s.bytes; cell = s.cell }
+
+abbrev pub indicated : SentWeighing → Indicated
+indicated x =
+    record {
+      m = x.m;
+      p = lent_sent x.p;
+      q = lent_sent x.q;
+      p2 = lent_sent x.p2;
+      q2 = lent_sent x.q2;
+      a = x.a;
+      b = x.b;
+      n = x.n;
+    }
+
 -- one call more can run
 next : {calls : List Call} {r : Record} {answers : List ℕ} (x : Call) → Trace calls r answers → Trace (calls ++ x ∷ []) (answered r x).1 (answers ++ number_in (answered r x).0 ∷ [])
+unfolding sent_by
 next {r = r} (journal.weigh w) t = then_weigh t w ([], tt) (record_lent r) (record_lent (answered r (journal.weigh w)).1) (answered r (journal.weigh w)).0 refl refl
 next {r = r} (journal.pair x) t = then_pair t x ([], tt) (record_lent r) (record_lent (answered r (journal.pair x)).1) (answered r (journal.pair x)).0 refl refl
+next {r = r} (journal.indicate x) t = then_indicate t (indicated x) (indicated x) ([], ([], tt)) (record_lent r) (record_lent (answered r (journal.indicate x)).1) (answered r (journal.indicate x)).0 refl refl
 next {r = r} (journal.install s) t = then_install t s ([], tt) (record_lent r) (record_lent (answered r (journal.install s)).1) (answered r (journal.install s)).0 refl refl
 next {r = r} (journal.change x) t = then_change t x ([], tt) (record_lent r) (record_lent (answered r (journal.change x)).1) (answered r (journal.change x)).0 refl refl
 next {r = r} (journal.seat f) t = then_seat t f ([], tt) (record_lent r) (record_lent (answered r (journal.seat f)).1) (answered r (journal.seat f)).0 refl refl

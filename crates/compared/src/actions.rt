@@ -1,4 +1,5 @@
 // One line of the cases: an action on the record that is lent in a part of a buffer, and its answer.
+use crate::indicated::indicated;
 use language::Line;
 use lines::{lent, sum};
 use nodhulika::{
@@ -179,6 +180,7 @@ impl Case {
             "Check" => check(rt, record),
             "Centre" => centre(rt, record),
             "Equipment" => equipment(rt, rest, record),
+            "Indicated" => answer(rt, indicated(rest, record)),
             _ => call(rt, line, record),
         }
     }

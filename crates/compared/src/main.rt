@@ -3,6 +3,7 @@
 // Runs cases over the library for C and Rust. They stand on standard input, a line for each action; the answers of a case are
 // a line of output. What it must print comes from the independent implementation in rust/judge, which wrote the cases too.
 mod actions;
+mod indicated;
 
 use actions::Case;
 use lines::each_block;

@@ -6,11 +6,12 @@
 -- the words mean is in crates/paper/specs, for equipment in crates/inventory/specs and crates/schedule/specs, and for the logbook and
 -- the library in crates/language/specs, crates/book/specs, crates/front/specs, crates/lent/specs and crates/nodhulika/specs;
 -- docs/ARCHITECTURE.md leads from the paper to each of them. Assumes nothing.
-use Rattle.std.specs.Prelude.{◌≡◌, Bool, true, false, not, ◌&&◌, List, [], ◌∷◌, ℕ, ◌*◌, ◌≤◌, ◌<◌, ℤ, length, get_or, set, take, Result, Ok, Some}
+use Rattle.std.specs.Prelude.{◌≡◌, refl, Bool, true, false, not, ◌&&◌, List, [], ◌∷◌, map, Option, ℕ, ◌*◌, ◌≤◌, ◌<◌, ℤ, length, get_or, set, take, Result, Ok, Some}
 use Rattle.std.proofs.Common.{sym, ◌∙◌}
 use Rattle.std.proofs.Math.Option.{some}
 use Rattle.std.specs.Int.Signed.{le_z}
 use Rattle.std.specs.Borrow.{Bor, MutBor}
+use Rattle.std.specs.Float.{Float}
 use Rattle.laws.specs.Lists.{Each}
 use Rattle.laws.specs.Splits.{split}
 use Rattle.laws.specs.Sides.{value_of}
@@ -24,13 +25,16 @@ use Rattle.paper.specs.declared.Refusal.{Refusal}
 use Rattle.paper.specs.Units.{between}
 use Rattle.paper.specs.Record.{Balance as Plain, Readings, weighed, last_weighing, balance_of, sheet_of, seat_of, ends_of}
 use Rattle.paper.specs.Equipment.{fitted, FromNose, equipment_of, arm_column, with_equipment, SameButOrder}
+use Rattle.paper.specs.Indicator.{grams, IsNearest, Counts, SentWeighing, is_turned, paired_of}
 use Rattle.paper.specs.Rows.{moment_beside, every_arm, some_arm, keeps_at}
 use Rattle.paper.specs.Placard.{feed}
 use Rattle.paper.specs.File.{file_as, file_bytes}
 use Rattle.paper.specs.Refusals.{entry_number, accepted}
 use Rattle.paper.specs.Answers.{over, equipment_answer}
-use Rattle.paper.specs.Journal.{Call, journal, numbers}
+use Rattle.paper.specs.Journal.{Call, pair, indicate, call_number, accepted_call, journal, numbers}
 use Rattle.paper.proofs.Seats.{ends_of_lem}
+use Rattle.paper.proofs.Feeding.{accepted_counts, accepted_pair}
+use Rattle.floats.specs.Grams.{grams_nearest, only_grams}
 use Rattle.seat.proofs.Lists.{ends-accepted}
 use Rattle.format.specs.Files.{Allows}
 use Rattle.balance.specs.declared.Balance.{Balance}
@@ -73,6 +77,7 @@ use Rattle.book.proofs.read.Reads as read-book
 use Rattle.listing.proofs.show.Reads as show
 use Rattle.listing.proofs.ReadAgain as read_again
 use Rattle.worked.specs.Table.{table, Says, a_to_k}
+use Rattle.worked.specs.Indicator.{floats, told, floats_told, indicated, indicated_numbers}
 use Rattle.worked.specs.Stations.{early, late, early_late, early_accepted, late_accepted, ten, twelve_less, more_first, less_first, same_changes, more_first_accepted, less_first_refused, less_first_number}
 use Rattle.claim.specs.Demand3 as claim
 use Rattle.claim.specs.Demand3.{Demand3, EachReading}
@@ -221,6 +226,29 @@ another_order = (early_late, early_accepted, late_accepted)
 pub order_of_acceptance : SameButOrder more_first less_first × (accepted more_first ≡ true) × (accepted less_first ≡ false) × (entry_number (ten ∷ []) twelve_less ≡ 6)
 order_of_acceptance = (same_changes, more_first_accepted, less_first_refused, less_first_number)
 
+-- ---- weighings by an indicator
+
+-- The grams of so many kilograms are the whole number that is nearest to 1000 times the float's exact value, and an even one where
+-- another is as near; and no other number is so.
+pub grams_are_nearest : (x : Float) → IsNearest x (grams x)
+grams_are_nearest = grams_nearest
+
+pub one_such_number : (x : Float) (g : ℕ) → IsNearest x g → g ≡ grams x
+one_such_number = only_grams
+
+-- Where a weighing by an indicator gets no number, each of its four readings is stable, in its ranges with its cell, and counts its
+-- net to the gram, turned round for q and q' in method 4.
+pub what_readings_count : (es : List Entry) (x : SentWeighing) → call_number es (indicate x) ≡ 0
+    → Counts false x.p (paired_of x).p × Counts (is_turned x) x.q (paired_of x).q × Counts false x.p2 (paired_of x).p2 × Counts (is_turned x) x.q2 (paired_of x).q2
+unfolding call_number
+what_readings_count = accepted_counts
+
+-- The paired weighing of these nets gets no number either, and the list after both is one: nothing of floats or cells is kept.
+pub kept_as_paired : (es : List Entry) (x : SentWeighing) → call_number es (indicate x) ≡ 0
+    → (call_number es (pair (paired_of x)) ≡ 0) × (accepted_call es (indicate x) ≡ accepted_call es (pair (paired_of x)))
+unfolding call_number accepted_call
+kept_as_paired es x n = (accepted_pair es x n, refl)
+
 -- ---- files
 
 -- What `file::longest` and `plate::longest` answer: no file, and no placard, has more bytes, and one has just as many.
@@ -308,3 +336,10 @@ every_library_list_runs = of-library.every_list_runs
 -- The paper's cases A to K, and further ones, computed from the definitions.
 pub worked_cases : Each Says table
 worked_cases = a_to_k
+
+-- Floats by their patterns and their grams; and ten weighings by an indicator, with the number that each gets.
+pub worked_floats : map (λ (x : ℕ × Option ℕ). told x.0) floats ≡ map (λ (x : ℕ × Option ℕ). x.1) floats
+worked_floats = floats_told
+
+pub worked_readings : numbers indicated ≡ 13 ∷ 14 ∷ 0 ∷ 0 ∷ 14 ∷ 14 ∷ 0 ∷ 14 ∷ 14 ∷ 1 ∷ []
+worked_readings = indicated_numbers

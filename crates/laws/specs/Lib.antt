@@ -15,3 +15,4 @@ pub mod Z
 pub mod Floor
 pub mod Sides
 pub mod Rising
+pub mod Nearest

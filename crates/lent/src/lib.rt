@@ -4,14 +4,18 @@
 // place; what stands behind it in the buffer is free and stays. A file of an older version is taken as it is, and the first call
 // that changes it leaves it in the version that is written.
 ghost use Rattle.std.specs.Prelude.{◌≡◌, List, [], ◌∷◌, ◌++◌, ℕ, ◌+◌, ◌≤◌, length, take};
+ghost use Rattle.std.proofs.Math.Option.{some};
 ghost use Rattle.paper.specs.declared.Entry.{Entry};
 ghost use Rattle.paper.specs.Numbers.{number_in};
 ghost use Rattle.paper.specs.File.{file_as};
-ghost use Rattle.paper.specs.Journal.{call_of, undo as undo_call};
+ghost use Rattle.paper.specs.Indicator.{sent_by};
+ghost use Rattle.paper.specs.Journal.{call_of, indicate as indicate_call, undo as undo_call};
+ghost use Rattle.front.specs.Front.{held_in};
+ghost use Rattle.stored.specs.Found.{ContentsOf};
 ghost use Rattle.lent.specs.Lent.{lent_file, lent_call, lent_read};
 
 use header::{Header, Version};
-use paper::{Entry, Refusal};
+use paper::{Entry, Indicated, Refusal};
 use stored::Contents;
 
 // A fresh record at the front of the buffer: 11 where it is too short.
@@ -39,13 +43,30 @@ fn append(buffer: &mut [u8], found: &Contents, e: Entry) -> Result<(), Refusal>
     Ok(())
 }
 
+// An entry behind the file that was found in the buffer, or why its call refuses it.
+fn add_behind(buffer: &mut [u8], found: &mut Contents, e: Entry) -> Result<(), Refusal>
+    requires { (es : List Entry) × (held_in buffer.old ≡ some es) × ContentsOf es found.old }
+    ensures { (number_in result, buffer.new) ≡ lent_call (call_of e) buffer.old }
+{
+    found.standing.add(e)?;
+    append(buffer, found, e)
+}
+
 // A weighing, plain or paired, a data sheet, a change or a seat entry.
 pub fn add(buffer: &mut [u8], e: Entry) -> Result<(), Refusal>
     ensures { (number_in result, buffer.new) ≡ lent_call (call_of e) buffer.old }
 {
     let mut found = front::held(buffer)?;
-    found.standing.add(e)?;
-    append(buffer, &found, e)
+    add_behind(buffer, &mut found, e)
+}
+
+// A paired weighing as an indicator sends it.
+pub fn indicate(buffer: &mut [u8], x: Indicated) -> Result<(), Refusal>
+    ensures { (number_in result, buffer.new) ≡ lent_call (indicate_call (sent_by x.entry)) buffer.old }
+{
+    let mut found = front::held(buffer)?;
+    let pair = indicator::pair(x)?;
+    add_behind(buffer, &mut found, pair.into())
 }
 
 // Taking back: the header says one entry less, and its bytes are free.

@@ -12,7 +12,9 @@ ghost use Rattle.front.specs.Front.{held_in, check_number, centre_for};
 ghost use Rattle.lent.specs.Lent.{lent_file, lent_call, lent_read};
 ghost use Rattle.nodhulika.specs.Exported.{centre_into, equipment_into, placard_into};
 
-use paper::{Change, Paired, Refusal, Seat, Sheet, Station, Weighing, number};
+use paper::{
+    Cell, Change, Indicated, Message, Paired, Refusal, Seat, Sheet, Station, Weighing, number,
+};
 use words::long_of;
 
 // How many bytes the numbers of an answer take.
@@ -65,6 +67,50 @@ pub fn nodhulika_weigh_paired(
         n,
     };
     number(&lent::add(buffer, x.into()))
+}
+
+// A reading of a cell, as it is lent.
+fn message(bytes: &[u8], rated: f64, zero: f64) -> Message<'_>
+    ensures { result ≡ record { bytes = bytes.entry; cell = record { rated = rated; zero = zero } } }
+{
+    let cell = Cell { rated, zero };
+    Message { bytes, cell }
+}
+
+// A paired weighing as an indicator sends it: each reading's nine bytes, and its cell's rated kilograms and zero.
+#[tactic(auto, unfolding(paper::specs::Indicator::sent_by))]
+pub fn nodhulika_weigh_indicated(
+    buffer: &mut [u8],
+    m: u64,
+    p: &[u8],
+    p_rated: f64,
+    p_zero: f64,
+    q: &[u8],
+    q_rated: f64,
+    q_zero: f64,
+    p2: &[u8],
+    p2_rated: f64,
+    p2_zero: f64,
+    q2: &[u8],
+    q2_rated: f64,
+    q2_zero: f64,
+    a: i64,
+    b: u64,
+    n: u64,
+) -> u64
+    ensures { (result, buffer.new) ≡ lent_call (journal.indicate (record { m = m; p = record { bytes = p.now; cell = record { rated = p_rated; zero = p_zero } }; q = record { bytes = q.now; cell = record { rated = q_rated; zero = q_zero } }; p2 = record { bytes = p2.now; cell = record { rated = p2_rated; zero = p2_zero } }; q2 = record { bytes = q2.now; cell = record { rated = q2_rated; zero = q2_zero } }; a = a; b = b; n = n })) buffer.old }
+{
+    let x = Indicated {
+        m,
+        p: message(p, p_rated, p_zero),
+        q: message(q, q_rated, q_zero),
+        p2: message(p2, p2_rated, p2_zero),
+        q2: message(q2, q2_rated, q2_zero),
+        a,
+        b,
+        n,
+    };
+    number(&lent::indicate(buffer, x))
 }
 
 // A data sheet.

@@ -57,6 +57,35 @@ pub extern "C" fn nodhulika_weigh_paired(
     nodhulika::nodhulika_weigh_paired(buffer, m, p, q, p2, q2, a, b, n)
 }
 
+// A paired weighing as an indicator sends it: each reading's nine bytes, and its cell's rated kilograms and zero.
+#[unsafe(no_mangle)]
+pub extern "C" fn nodhulika_weigh_indicated(
+    buffer: &mut [u8],
+    m: u64,
+    p: &[u8],
+    p_rated: f64,
+    p_zero: f64,
+    q: &[u8],
+    q_rated: f64,
+    q_zero: f64,
+    p2: &[u8],
+    p2_rated: f64,
+    p2_zero: f64,
+    q2: &[u8],
+    q2_rated: f64,
+    q2_zero: f64,
+    a: i64,
+    b: u64,
+    n: u64,
+) -> u64
+    ensures { (result, buffer.new) ≡ lent_call (journal.indicate (record { m = m; p = record { bytes = p.now; cell = record { rated = p_rated; zero = p_zero } }; q = record { bytes = q.now; cell = record { rated = q_rated; zero = q_zero } }; p2 = record { bytes = p2.now; cell = record { rated = p2_rated; zero = p2_zero } }; q2 = record { bytes = q2.now; cell = record { rated = q2_rated; zero = q2_zero } }; a = a; b = b; n = n })) buffer.old }
+{
+    nodhulika::nodhulika_weigh_indicated(
+        buffer, m, p, p_rated, p_zero, q, q_rated, q_zero, p2, p2_rated, p2_zero, q2, q2_rated,
+        q2_zero, a, b, n,
+    )
+}
+
 // A data sheet.
 #[unsafe(no_mangle)]
 pub extern "C" fn nodhulika_sheet(

@@ -6,3 +6,4 @@ pub mod Seats
 pub mod Weighings
 pub mod Lists
 pub mod Calls
+pub mod Feeding

@@ -10,8 +10,8 @@ use Rattle.paper.specs.declared.Refusal.TheVariants as refusal
 use Rattle.paper.specs.Numbers.{number_of, number_in, refusal_of, answer_of}
 use native.Mathlib.Omega.{arith}
 use Rattle.paper.specs.declared.Entry.{Entry}
-use Rattle.paper.specs.Refusals.{first_number, weighing_number, weighing_faults, sheet_number, sheet_faults, change_number, change_faults, seat_number, seat_faults, undo_number, reading_number}
-use Rattle.paper.specs.Journal.{Call, weigh, pair, install, change, seat, undo, read, call_number}
+use Rattle.paper.specs.Refusals.{first_number, weighing_number, weighing_faults, indicator_number, indicator_faults, sheet_number, sheet_faults, change_number, change_faults, seat_number, seat_faults, undo_number, reading_number}
+use Rattle.paper.specs.Journal.{Call, weigh, pair, indicate, install, change, seat, undo, read, call_number}
 
 -- a number above 0 whose condition holds comes first
 clear_of : (n : ℕ) (b : Bool) (xs : List (ℕ × Bool)) → 0 < n → first_number ((n, b) ∷ xs) ≡ 0 → (b ≡ false) × (first_number xs ≡ 0)
@@ -40,6 +40,8 @@ number_back refusal.Full = refl
 number_back refusal.Empty = refl
 number_back refusal.ShortBuffer = refl
 number_back refusal.NoFile = refl
+number_back refusal.Unsteady = refl
+number_back refusal.Load = refl
 
 pub positive : (r : Refusal) → 0 < number_of r
 positive refusal.Reading = omega arith
@@ -54,6 +56,8 @@ positive refusal.Full = omega arith
 positive refusal.Empty = omega arith
 positive refusal.ShortBuffer = omega arith
 positive refusal.NoFile = omega arith
+positive refusal.Unsteady = omega arith
+positive refusal.Load = omega arith
 
 pub not_0 : (r : Refusal) → eqb (number_of r) 0 ≡ false
 not_0 r = ne_eqb (number_of r) 0 (λ (z : number_of r ≡ 0). let k = positive r in omega arith)
@@ -73,9 +77,12 @@ unfolding first_number
 none_of = refl
 
 pub call_told : (es : List Entry) (x : Call) → Told (call_number es x)
-unfolding refusal_of call_number weighing_number weighing_faults sheet_number sheet_faults change_number change_faults seat_number seat_faults undo_number reading_number
+unfolding refusal_of call_number weighing_number weighing_faults indicator_number indicator_faults sheet_number sheet_faults change_number change_faults seat_number seat_faults undo_number reading_number
 call_told es (weigh w) = one_of 9 _ _ refl (one_of 1 _ _ refl (one_of 2 _ _ refl (one_of 3 _ [] refl none_of)))
 call_told es (pair x) = one_of 9 _ _ refl (one_of 1 _ _ refl (one_of 2 _ _ refl (one_of 3 _ [] refl none_of)))
+call_told es (indicate x) =
+    one_of 13 _ _ refl
+    (one_of 14 _ _ refl (one_of 9 _ _ refl (one_of 1 _ _ refl (one_of 2 _ _ refl (one_of 3 _ [] refl none_of)))))
 call_told es (install s) = one_of 9 _ _ refl (one_of 2 _ _ refl (one_of 4 _ _ refl (one_of 5 _ [] refl none_of)))
 call_told es (change x) =
     one_of 9 _ _ refl (one_of 7 _ _ refl (one_of 2 _ _ refl (one_of 6 _ _ refl (one_of 3 _ [] refl none_of))))

@@ -9,12 +9,15 @@ use Rattle.paper.specs.declared.Seat.{Seat}
 use Rattle.paper.specs.declared.Entry.{Entry}
 use Rattle.paper.specs.declared.Entry.TheVariants as entry
 use Rattle.paper.specs.Record.{alike, paired}
-use Rattle.paper.specs.Refusals.{weighing_number, sheet_number, change_number, seat_number, undo_number, reading_number, file_of}
+use Rattle.paper.specs.Indicator.{SentWeighing, paired_of}
+use Rattle.paper.specs.Refusals.{weighing_number, indicator_number, sheet_number, change_number, seat_number, undo_number, reading_number, file_of}
 
--- a call that can change the record, with its arguments: the bytes of a file are reading back's
+-- a call that can change the record, with its arguments: for a weighing by an indicator the bytes of four readings with their cells,
+-- for reading back the bytes of a file
 pub data Call : Type 0 where
   weigh : Weighing → Call
   pair : Paired → Call
+  indicate : SentWeighing → Call
   install : Sheet → Call
   change : Change → Call
   seat : Seat → Call
@@ -33,6 +36,7 @@ call_of (entry.Seat f) = seat f
 unfoldable pub call_number : List Entry → Call → ℕ
 call_number es (weigh w) = weighing_number es (alike w)
 call_number es (pair x) = weighing_number es (paired x)
+call_number es (indicate x) = indicator_number es x
 call_number es (install s) = sheet_number es s
 call_number es (change x) = change_number es x
 call_number es (seat f) = seat_number es f
@@ -53,6 +57,7 @@ entries_or es (some fs) = fs
 unfoldable pub accepted_call : List Entry → Call → List Entry
 accepted_call es (weigh w) = es ++ entry.Weighing w ∷ []
 accepted_call es (pair x) = es ++ entry.Paired x ∷ []
+accepted_call es (indicate x) = es ++ entry.Paired (paired_of x) ∷ []
 accepted_call es (install s) = es ++ entry.Sheet s ∷ []
 accepted_call es (change x) = es ++ entry.Change x ∷ []
 accepted_call es (seat f) = es ++ entry.Seat f ∷ []

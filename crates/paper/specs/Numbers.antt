@@ -33,6 +33,8 @@ number_of refusal.Full = 9
 number_of refusal.Empty = 10
 number_of refusal.ShortBuffer = 11
 number_of refusal.NoFile = 12
+number_of refusal.Unsteady = 13
+number_of refusal.Load = 14
 
 -- what is printed of a refusal
 abbrev pub refusal_text : Refusal → List ℕ
@@ -55,7 +57,8 @@ refusal_of n =
     (cond (eqb n 7) refusal.NoWeighing
     (cond (eqb n 8) refusal.NoSheet
     (cond (eqb n 9) refusal.Full
-    (cond (eqb n 10) refusal.Empty (cond (eqb n 11) refusal.ShortBuffer refusal.NoFile))))))))))
+    (cond (eqb n 10) refusal.Empty (cond (eqb n 11) refusal.ShortBuffer
+    (cond (eqb n 12) refusal.NoFile (cond (eqb n 13) refusal.Unsteady refusal.Load))))))))))))
 
 -- what a call answers by its number: a refusal where it is not 0
 abbrev pub answer_of : {A : Type 0} → ℕ → A → Result A Refusal

@@ -15,6 +15,7 @@ use Rattle.paper.specs.Equipment.{fitted, equipment_of}
 use Rattle.paper.specs.Rows.{row_count}
 use Rattle.paper.specs.Placard.{text_length}
 use Rattle.paper.specs.File.{file_bytes, laid_out}
+use Rattle.paper.specs.Indicator.{SentWeighing, any_of, unsteady, out_of_range, paired_of}
 
 -- a number of refusal and whether its condition holds
 infix 68 ◌when◌
@@ -59,6 +60,16 @@ weighing_faults x = 1 when either bad_reading x ∷ 2 when either bad_distance x
 
 unfoldable pub weighing_number : List Entry → Readings → ℕ
 weighing_number es x = first_number (9 when full es ∷ weighing_faults x)
+
+-- ---- weighing by an indicator: 13, 14, then those of the paired weighing
+
+-- what is asked of its four readings: 13 of all of them before 14 of any
+unfoldable pub indicator_faults : SentWeighing → List (ℕ × Bool)
+indicator_faults x = 13 when any_of (λ turned. unsteady) x ∷ 14 when any_of out_of_range x ∷ []
+
+unfoldable pub indicator_number : List Entry → SentWeighing → ℕ
+indicator_number es x =
+    first_number (indicator_faults x ++ 9 when full es ∷ weighing_faults (paired (paired_of x)))
 
 -- ---- data sheet: 9, 2, 4, 5
 

@@ -1,7 +1,8 @@
 #![tactic(auto)]
 
-// What the papers speak of, as types: weights and arms, the entries, a row, and what the calls answer.
-// What the papers say of them is in specs/, a file for each heading of paper 01.
+// What the papers speak of, as types: weights and arms, the entries, what an indicator sends, a row, and what the calls answer.
+// What the papers say of them is in specs/: a file for each heading of paper 01, one for equipment by station and one for the
+// indicator.
 ghost use Rattle.std.specs.Prelude.{◌≡◌};
 ghost use Rattle.paper.specs.declared.Entry.TheVariants as entry;
 ghost use Rattle.paper.specs.Numbers.{number_of, number_in, Decodes};
@@ -76,6 +77,42 @@ pub struct Change {
 pub struct Seat {
     pub lower: i64,
     pub higher: i64,
+}
+
+// What an indicator sends of a load on a cell: its kilograms, where it is stable or still moving, or that it is over.
+#[derive(Clone, Copy)]
+pub enum Reading {
+    Stable(f64),
+    Moving(f64),
+    Over,
+}
+
+// A load cell: its rated kilograms, and its zero, what it shows without the load.
+#[derive(Clone, Copy)]
+pub struct Cell {
+    pub rated: f64,
+    pub zero: f64,
+}
+
+// A reading as the indicator sends it, and the cell that it is of.
+#[derive(Clone, Copy)]
+pub struct Message<'a> {
+    pub bytes: &'a [u8],
+    pub cell: Cell,
+}
+
+// A paired weighing as an indicator sends it: p, q, p' and q' as messages. It is no entry: what is kept is the paired weighing of
+// their nets.
+#[derive(Clone, Copy)]
+pub struct Indicated<'a> {
+    pub m: u64,
+    pub p: Message<'a>,
+    pub q: Message<'a>,
+    pub p2: Message<'a>,
+    pub q2: Message<'a>,
+    pub a: i64,
+    pub b: u64,
+    pub n: u64,
 }
 
 #[derive(Clone, Copy)]
@@ -173,6 +210,8 @@ pub enum Refusal {
     Empty = 10,
     ShortBuffer = 11,
     NoFile = 12,
+    Unsteady = 13,
+    Load = 14,
 }
 
 impl From<Refusal> for u64 {

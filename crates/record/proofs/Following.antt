@@ -16,10 +16,12 @@ use Rattle.paper.specs.declared.Entry.{Entry}
 use Rattle.paper.specs.declared.Entry.TheVariants as entry
 use Rattle.paper.specs.Numbers.{refusal_of, number_in}
 use Rattle.paper.proofs.Numbers.{call_told}
+use Rattle.paper.proofs.Feeding.{accepted_pair}
+use Rattle.paper.specs.Indicator.{paired_of}
 use Rattle.paper.specs.Refusals.{entry_number, accepted_after, accepted, only_accepted, file_of}
 use Rattle.paper.specs.File.{laid_out}
 use Rattle.paper.proofs.Lists.{last_apart}
-use Rattle.paper.specs.Journal.{Call, weigh, pair, install, change, seat, undo, read, call_number, accepted_call, after_by, after_call, without_last, entries_or}
+use Rattle.paper.specs.Journal.{Call, weigh, pair, indicate, install, change, seat, undo, read, call_number, accepted_call, after_by, after_call, without_last, entries_or}
 use Rattle.record.specs.declared.Record.{Record}
 use Rattle.record.specs.Held.{record_of, held_by, kept_or, answered}
 use Rattle.record.proofs.Calls.{Answer}
@@ -53,6 +55,7 @@ pub call_accepted : (es : List Entry) (x : Call) → accepted es ≡ true → ca
 unfolding call_number accepted_call entry_number file_of
 call_accepted es (weigh w) h n = accepted-more es (entry.Weighing w) h n
 call_accepted es (pair x) h n = accepted-more es (entry.Paired x) h n
+call_accepted es (indicate x) h n = accepted-more es (entry.Paired (paired_of x)) h (accepted_pair es x n)
 call_accepted es (install s) h n = accepted-more es (entry.Sheet s) h n
 call_accepted es (change x) h n = accepted-more es (entry.Change x) h n
 call_accepted es (seat f) h n = accepted-more es (entry.Seat f) h n

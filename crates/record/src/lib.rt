@@ -4,12 +4,15 @@
 // so it answers for every value of the type, also for one that no call made.
 ghost use Rattle.std.specs.Prelude.{◌≡◌, ◌<◌, [], ◌∷◌, ◌++◌};
 ghost use Rattle.paper.specs.Refusals.{entry_number};
+ghost use Rattle.paper.specs.Indicator.{sent_by};
 ghost use Rattle.paper.specs.Journal as journal;
 ghost use Rattle.paper.specs.Answers.{centre_answer};
 ghost use Rattle.record.specs.Held.{record_of, slotted, held_by, answered, kept_or, put, ReplayedAs};
 
 use judge::Standing;
-use paper::{CAPACITY, CentreOfGravity, Change, Entry, Paired, Refusal, Seat, Sheet, Weighing};
+use paper::{
+    CAPACITY, CentreOfGravity, Change, Entry, Indicated, Paired, Refusal, Seat, Sheet, Weighing,
+};
 
 // What an unused slot holds: a change of nothing, which no call accepts.
 const UNUSED: Entry = Entry::Change(Change {
@@ -97,6 +100,14 @@ impl Record {
         ensures { (result, self.new) ≡ answered self.old (journal.pair pair) }
     {
         self.add(pair.into())
+    }
+
+    // A paired weighing as an indicator sends it.
+    pub fn weigh_indicated(&mut self, x: Indicated) -> Result<(), Refusal>
+        ensures { (result, self.new) ≡ answered self.old (journal.indicate (sent_by x.entry)) }
+    {
+        let pair = indicator::pair(x)?;
+        self.weigh_paired(pair)
     }
 
     // A data sheet.

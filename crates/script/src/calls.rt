@@ -1,6 +1,7 @@
 // The record's calls by letters.
 use crate::reread::{G, first_version, read_again};
 use crate::sample::Fields;
+use crate::sent::weigh_indicated;
 use crate::texts::{lettered, parted, text};
 use lines::read_full;
 use paper::Refusal;
@@ -47,6 +48,7 @@ fn called(log: &mut Record, call: &str) -> Result<(), Refusal> {
         "v" => log.weigh(by(HANGING).weighing()),
         "u" => log.weigh(by(LIGHT).weighing()),
         "p" => log.weigh_paired(by(PAIRED).paired()),
+        "i" => weigh_indicated(log, other),
         "s" => log.install(by(SHEET).sheet()),
         "l" => log.install(by(LAX_SHEET).sheet()),
         "c" => log.change(by(CHANGE).change()),

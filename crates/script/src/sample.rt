@@ -12,13 +12,13 @@ pub struct Fields<'a> {
 
 impl Fields<'_> {
     // The number of a field: behind the last that has its letter, or 0 where none has.
-    fn number(&self, letter: char) -> u64 {
+    pub fn number(&self, letter: char) -> u64 {
         let ordinary = self.ordinary.rsplit_once(letter);
         let last = self.other.rsplit_once(letter).or(ordinary);
         last.map_or(0, |(_, field)| number(field.as_bytes()))
     }
 
-    fn signed(&self, letter: char) -> i64 {
+    pub fn signed(&self, letter: char) -> i64 {
         self.number(letter).cast_signed()
     }
 

@@ -1,4 +1,4 @@
-// What stands in a text: its parts, its numbers, bytes as digits of sixteen.
+// What stands in a text: its parts, its numbers, bytes and floats as digits of sixteen.
 ghost use Rattle.std.specs.Prelude.{◌≡◌, ◌⊎◌, ◌∷◌, ◌++◌, ◌/◌, ◌<◌, [], length, take, IfOk, min};
 ghost use Rattle.std.specs.Str.{IsCharBoundary};
 ghost use Rattle.script.specs.Digits.{digits_from, sixteen, Spells};
@@ -74,4 +74,11 @@ pub fn spelled<'a>(digits: &[u8], out: &'a mut [u8]) -> &'a mut [u8]
         *x = digit(digits[2 * i]) * 16 + digit(digits[2 * i + 1]);
     }
     bytes
+}
+
+// The float whose pattern digits of sixteen spell, with noughts behind them where they are fewer than sixteen.
+pub fn float(digits: &str) -> f64 {
+    let mut pattern = [0u8; 8];
+    spelled(digits.as_bytes(), &mut pattern);
+    floats::of_bits(u64::from_be_bytes(pattern))
 }

@@ -5,3 +5,4 @@ pub mod Search
 pub mod Table
 pub mod Cases
 pub mod Stations
+pub mod Indicator

@@ -10,9 +10,9 @@ use std::collections::BTreeMap;
 #[derive(Default)]
 struct Spread {
     /// Numbers of calls, of centres and of placards.
-    calls: [u64; 13],
-    centres: [u64; 13],
-    placards: [u64; 13],
+    calls: [u64; 15],
+    centres: [u64; 15],
+    placards: [u64; 15],
     /// Rows by kind of case: blank, whole range, in between, of one step only.
     rows: BTreeMap<&'static str, [u64; 4]>,
     /// Cases of a kind whose weighing and sheet stand in the end, and all.
@@ -71,7 +71,7 @@ impl Spread {
 
     fn print(&self) {
         println!("number      calls    centres   placards");
-        for number in 0..13 {
+        for number in 0..15 {
             let (calls, centres) = (self.calls[number], self.centres[number]);
             println!(
                 "{number:6} {calls:10} {centres:10} {:10}",

@@ -13,9 +13,12 @@
 //! add 2e12 each and the water 8e12, so S stays below 5.4e14 and 20·S below
 //! 1.1e16. On the other side T is at most 2·5e6 = 1e7 and 19·AFT + FWD at most
 //! 4e7, so their product is at most 4e14. The coefficients of P, at most 8e6 and
-//! 1.6e8, times a front step of 5e5 come to 8e13. An `i64` holds 9.2e18.
+//! 1.6e8, times a front step of 5e5 come to 8e13. An `i64` holds 9.2e18. The fraction
+//! of a float, below 2^53, times 1000 stays below 2^63, and with half a gram more below
+//! 2^64.
 
-use crate::paper::{Call, Centre, Change, Columns, Counts, Paired, Seat, Sheet, Weighing};
+use crate::paper::{Call, Cell, Centre, Change, Columns, Counts, Indicated, Message};
+use crate::paper::{Paired, Seat, Sheet, Weighing};
 use std::collections::BTreeMap;
 
 /// Half grams in a gram.
@@ -131,6 +134,88 @@ fn pair(x: &Paired) -> Answer<Sums> {
         g: first + second,
         m: moment(x.m, p, q, x.a, x.b as i64),
         n: HALVES * x.n as i64,
+    })
+}
+
+/// Bits of a float's fraction, and the floats minus nought, 2000 and infinity.
+const FRACTION: u32 = 52;
+const MINUS_NOUGHT: u64 = 1 << 63;
+const MOST_KILOGRAMS: u64 = 0x409f_4000_0000_0000;
+const INFINITE: u64 = 0x7ff << FRACTION;
+
+/// A float's bits, minus nought being nought. From nought to infinity they rise as the
+/// floats do; those of what is below nought and of a NaN are greater than all of them.
+fn rank(float: u64) -> u64 {
+    if float == MINUS_NOUGHT {
+        0
+    } else {
+        float
+    }
+}
+
+/// Grams of a load by its rank: the fraction times 1000, shifted to its place behind the
+/// point. Before that half a gram is added, or a bit less where the gram is even, so that a
+/// tie stays there.
+fn grams(load: u64) -> i64 {
+    let exponent = load >> FRACTION;
+    let leading = u64::from(exponent != 0) << FRACTION;
+    let fraction = load & ((1 << FRACTION) - 1);
+    let thousands = 1_000 * (leading | fraction);
+    // At most 2000 kg, so that the point is 42 bits or more from the end.
+    let shift = 1_075 - exponent.max(1);
+    if shift > 63 {
+        // Less than half a gram: the thousands have 63 bits at most.
+        return 0;
+    }
+    let odd = thousands >> shift & 1;
+    let below_half = (1 << (shift - 1)) - 1;
+    ((thousands + below_half + odd) >> shift) as i64
+}
+
+/// The float of a stable reading; refused with 13.
+fn stable(message: &Message) -> Answer<u64> {
+    match message.bytes.split_first_chunk::<1>() {
+        Some(([1], float)) => float.try_into().map(u64::from_be_bytes).map_err(|_| 13),
+        _ => Err(13),
+    }
+}
+
+/// Reading less zero in grams; refused with 14.
+fn over_zero(reading: u64, cell: &Cell) -> Answer<i64> {
+    let (load, rated, zero) = (rank(reading), rank(cell.rated), rank(cell.zero));
+    if load.max(zero) > MOST_KILOGRAMS || load > rated || rated >= INFINITE {
+        return Err(14);
+    }
+    Ok(grams(load) - grams(zero))
+}
+
+/// What four messages come to; refused with 13 or 14.
+pub fn nets(x: &Indicated) -> Result<Paired, u64> {
+    let messages = [&x.p, &x.q, &x.p2, &x.q2];
+    let mut readings = [0; 4];
+    for (reading, message) in readings.iter_mut().zip(messages) {
+        *reading = stable(message)?;
+    }
+    // The zero of the lift holds the jury ballast.
+    let lift = if x.m == 4 { -1 } else { 1 };
+    let mut nets = [1, lift, 1, lift];
+    for ((net, reading), message) in nets.iter_mut().zip(readings).zip(messages) {
+        *net *= over_zero(reading, &message.cell)?;
+        if *net < 0 {
+            return Err(14);
+        }
+    }
+    let [p, q, p2, q2] = nets.map(|net| net as u64);
+    let Indicated { m, a, b, n, .. } = *x;
+    Ok(Paired {
+        m,
+        p,
+        q,
+        p2,
+        q2,
+        a,
+        b,
+        n,
     })
 }
 
@@ -493,6 +578,7 @@ pub(crate) fn call_by(
     let answer = read.and_then(|record| match call {
         Call::Weigh(w) => add_weighing(buffer, &record, w),
         Call::Pair(x) => add_pair(buffer, &record, x),
+        Call::Indicate(x) => add_pair(buffer, &record, &nets(x)?),
         Call::Install(s) => add_sheet(buffer, &record, s),
         Call::Change(c) => add_change(buffer, &record, c),
         Call::Seat(s) => add_seat(buffer, &record, s),

@@ -4,12 +4,14 @@
 //! on and of the columns for the equipment. Eight kinds take turns over the
 //! indices, and any index alone reproduces its case. The gliders are made so
 //! that most placards are worth looking at: the moment is chosen last, so that a
-//! limit is met somewhere among the loads.
+//! limit is met somewhere among the loads. In the end an indicator sends some of the
+//! weighings, which come to the same.
 
-use crate::paper::{Call, Change, Journal, Sheet};
+use crate::paper::{Call, Change, Indicated, Journal, Sheet};
 use edges::edge_call;
 use files::{any_version, damaged};
 use glider::{any_glider, lighten, seater, toy, worked_plate, Glider};
+use indicator::{by_indicator, edge_indicated, indicator_case};
 use random::Random;
 use seats::beside_a_limit;
 use stations::{columns, stations_case};
@@ -17,6 +19,7 @@ use stations::{columns, stations_case};
 mod edges;
 mod files;
 mod glider;
+mod indicator;
 mod random;
 mod seats;
 mod stations;
@@ -77,11 +80,20 @@ const KINDS: [(&str, Maker); 8] = [
     ("rows", rows_case),
 ];
 
+/// A weighing by an indicator, good or with something at an edge, the same for the same
+/// seed and index.
+pub fn indicated(seed: u64, index: u64) -> Indicated {
+    let mut random = Random::new(seed, index);
+    let glider = any_glider(&mut random);
+    edge_indicated(&mut random, &glider)
+}
+
 /// The case of an index, the same for the same seed and index.
 pub fn case(seed: u64, index: u64) -> Case {
     let mut random = Random::new(seed, index);
     let (kind, make) = KINDS[(index % KINDS.len() as u64) as usize];
-    let calls = make(&mut random);
+    let mut calls = make(&mut random);
+    by_indicator(&mut Random::new(!seed, index), &mut calls);
     let room = room(&mut random, &calls);
     let plate = plate(&mut random, &calls, room);
     let fill = random.draw() as u8;
@@ -131,8 +143,12 @@ fn realistic_case(random: &mut Random) -> Vec<Call> {
 
 /// Every range of the table at its edges and one beyond, one field at a time on
 /// an otherwise good entry; sometimes on an empty journal, on one without a weighing
-/// or without a sheet, or on a full one.
+/// or without a sheet, or on a full one. One list in three is one of weighings by an
+/// indicator.
 fn edges_case(random: &mut Random) -> Vec<Call> {
+    if random.one_in(3) {
+        return indicator_case(random);
+    }
     let glider = seater(random);
     let mut calls = match random.below(16) {
         0 => Vec::new(),

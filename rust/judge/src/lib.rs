@@ -5,15 +5,17 @@
 //! placard: from scale readings to the cockpit plate"). None of it was taken
 //! from the proved library, its documents or its tests, so a mistake in reading
 //! the paper there is not repeated here by copying. Where the two differ, one
-//! of them has misread the paper. Cards 1, 2 and 4 of paper 02 ("Both readings
-//! stay", "Nobody in the seat", "Adjustable seat backs") were added from the cards'
-//! words, but by someone who had read the definitions that the library is proved
-//! against: of them this is a second reckoning rather than a second reading.
+//! of them has misread the paper. Cards 1, 2, 4 and 6 of paper 02 ("Both readings
+//! stay", "Nobody in the seat", "Adjustable seat backs", "Load-cell indicator") were
+//! added from the cards' words, but by someone who had read the definitions that the
+//! library is proved against: of them this is a second reckoning rather than a second
+//! reading.
 //! Card 5 ("Equipment by station") was added from its words before there were
 //! definitions of it to be read.
 //!
-//! - [`paper`] follows the papers line by line, with plain loops and `i128`.
-//!   It is slow and meant to be compared with the paper by eye.
+//! - [`paper`] follows the papers line by line, with plain loops and `i128`, and takes
+//!   a float for the whole number of smallest parts that it is. It is slow and meant to
+//!   be compared with the paper by eye.
 //! - [`direct`] gives the same answers by solving each limit for the front
 //!   load, on a record lent as its file at the front of a byte buffer. It
 //!   shares the types of [`paper`] and none of its functions. It is simple, and
@@ -23,6 +25,7 @@
 //!   [`direct`] what makes no difference in time.
 //! - [`generate`] makes cases from a seed, so that any difference found can be
 //!   found again from two numbers.
+//! - [`classes`] names the sorts of messages that an indicator sends, to be counted.
 //! - [`run`] runs a case to its end by any of them, so that all that can be seen
 //!   of it is compared as a whole.
 //!
@@ -31,11 +34,13 @@
 //!
 //! Weights are whole grams and arms whole hundredths of a millimetre, positive
 //! aft of the datum, as in paper 01's "Units"; sums over two readings are in half
-//! grams.
+//! grams. An indicator's kilograms are floats, which are known by their patterns alone:
+//! none of the three reckons with floats.
 
 #![forbid(unsafe_code)]
 #![warn(missing_docs)]
 
+pub mod classes;
 pub mod direct;
 pub mod fast;
 pub mod generate;

@@ -1,8 +1,9 @@
-//! Paper 01 by plain loops, and cards 1, 2, 4 and 5 of paper 02 with it.
+//! Paper 01 by plain loops, and cards 1, 2, 4, 5 and 6 of paper 02 with it.
 //!
 //! Every rule stands here as the paper words it, under the paper's heading, and
-//! every number is an `i128`, so that no argument can overflow a test. Nothing
-//! is solved: a row tries each step of the front load in turn.
+//! every number is an `i128`, so that no argument can overflow a test; what an
+//! indicator sends is a whole number of the smallest part that a float can have.
+//! Nothing is solved: a row tries each step of the front load in turn.
 //!
 //! Card 1, "both readings stay": a weighing may have two readings, totals and
 //! moments are sums over both and so in half grams, and "a plain weighing counts
@@ -20,6 +21,14 @@
 //! Card 5, "equipment by station": "for the changes behind the last weighing, fill
 //! lent columns with each arm once, foremost first, and the net weight and net
 //! non-lifting weight there in grams, a net of nought included".
+//!
+//! Card 6, "load-cell indicator": a weighing may come as the four messages of an
+//! indicator, each "a state byte (1 stable, 2 moving, 3 over) and eight bytes of a
+//! binary64, big-endian", with the rating and the zero of its cell. "A stable reading
+//! becomes the whole gram nearest to the float's exact value times 1000, a tie going to
+//! the even gram; the zero's grams, found alike, are then taken off", or the other way
+//! round for q and q' in method 4. What they come to is entered as a paired weighing.
+//! No float is reckoned with: of each there is only its pattern.
 //!
 //! Readings of the papers, where their words leave room:
 //!
@@ -49,6 +58,15 @@
 //! - The equipment goes into three columns with lengths of their own. Where any of
 //!   them is shorter than there are arms it is refused with 11, and none is written.
 //!   Sheets and seats between the changes make no difference.
+//! - 13 and 14 come "before the weighing's own checks", so before 9 too. In a method
+//!   outside 1..4 nothing is turned round, and 1 comes behind them.
+//! - The rating, 2000 kg and nought are compared with the float as it was sent. A rating
+//!   below nought refuses every reading; the zero is not compared with the rating.
+//! - What an over reading says beside its state is not looked at, and neither is a moving
+//!   one's float: both are 13.
+//! - "A net below nought" is one in whole grams: the reading may be below its zero.
+
+use std::cmp::Ordering;
 
 // Half grams in a gram.
 const HALVES: i128 = 2;
@@ -81,6 +99,8 @@ const FULL: u64 = 9;
 const BARE: u64 = 10;
 const SHORT: u64 = 11;
 const FILE: u64 = 12;
+const UNSTEADY: u64 = 13;
+const BAD_LOAD: u64 = 14;
 
 /// Up to this much water a row tries every whole gram; above it, both ends.
 const EVERY_GRAM: i128 = 400;
@@ -118,6 +138,53 @@ pub struct Paired {
     pub p2: u64,
     /// Second reading q', in grams.
     pub q2: u64,
+    /// Signed distance of the first support from the datum.
+    pub a: i64,
+    /// Distance between the supports.
+    pub b: u64,
+    /// Non-lifting weight, in grams.
+    pub n: u64,
+}
+
+/// A load cell, by the patterns of its two floats of 64 bits, in kilograms.
+#[derive(Clone, Copy, Debug, PartialEq, Eq)]
+pub struct Cell {
+    /// What it is rated for.
+    pub rated: u64,
+    /// What it shows without the glider.
+    pub zero: u64,
+}
+
+/// What an indicator sent for one reading, and the cell that it read.
+#[derive(Clone, Debug, PartialEq, Eq)]
+pub struct Message {
+    /// The state and the float, nine bytes where nothing was lost.
+    pub bytes: Vec<u8>,
+    /// The cell.
+    pub cell: Cell,
+}
+
+impl Message {
+    /// A stable reading of a float.
+    pub fn stable(pattern: u64, cell: Cell) -> Message {
+        let bytes = [&[1], pattern.to_be_bytes().as_slice()].concat();
+        Message { bytes, cell }
+    }
+}
+
+/// A paired weighing as an indicator sent it.
+#[derive(Clone, Debug, PartialEq, Eq)]
+pub struct Indicated {
+    /// Method, 1 to 4.
+    pub m: u64,
+    /// First reading p.
+    pub p: Message,
+    /// First reading q.
+    pub q: Message,
+    /// Second reading p'.
+    pub p2: Message,
+    /// Second reading q'.
+    pub q2: Message,
     /// Signed distance of the first support from the datum.
     pub a: i64,
     /// Distance between the supports.
@@ -204,6 +271,8 @@ pub enum Call {
     Weigh(Weighing),
     /// Add a paired weighing.
     Pair(Paired),
+    /// Add a paired weighing that an indicator sent.
+    Indicate(Indicated),
     /// Add a data sheet.
     Install(Sheet),
     /// Add a change.
@@ -403,6 +472,191 @@ fn steps_and_rows_hold(s: &Sheet) -> bool {
     rears * waters <= MOST_ROWS
 }
 
+// ---- An indicator ----
+
+/// A whole number of up to 2,176 bits, its highest word first, so that two of them
+/// compare as their words do in turn.
+#[derive(Clone, Copy, PartialEq, Eq, PartialOrd, Ord)]
+struct Whole([u64; 34]);
+
+impl Whole {
+    /// A number with so many bits of 0 behind it.
+    fn shifted(number: u64, by: usize) -> Whole {
+        let mut words = [0; 34];
+        let wide = u128::from(number) << (by % 64);
+        let last = words.len() - 1 - by / 64;
+        words[last] = wide as u64;
+        words[last - 1] = (wide >> 64) as u64;
+        Whole(words)
+    }
+
+    fn times(self, factor: u64) -> Whole {
+        let mut words = self.0;
+        let mut carried = 0;
+        for word in words.iter_mut().rev() {
+            let product = u128::from(*word) * u128::from(factor) + carried;
+            *word = product as u64;
+            carried = product >> 64;
+        }
+        assert_eq!(carried, 0);
+        Whole(words)
+    }
+
+    /// How far apart two numbers are.
+    fn apart(self, other: Whole) -> Whole {
+        let (more, less) = (self.max(other), self.min(other));
+        let mut words = more.0;
+        let mut borrowed = false;
+        for (word, taken) in words.iter_mut().zip(less.0).rev() {
+            let (rest, first) = word.overflowing_sub(taken);
+            let (rest, second) = rest.overflowing_sub(u64::from(borrowed));
+            (*word, borrowed) = (rest, first || second);
+        }
+        Whole(words)
+    }
+}
+
+/// The bits behind the point of the smallest part that a float can have: every float
+/// that is a number is a whole number of such parts.
+const PARTS: usize = 1_074;
+
+/// So many kilograms, as parts.
+fn parts(kilograms: u64) -> Whole {
+    Whole::shifted(kilograms, PARTS)
+}
+
+/// Kilograms that a float says exactly. "Minus nought is nought".
+#[derive(Clone, Copy)]
+struct Kilograms {
+    below_nought: bool,
+    /// How many parts, whatever the sign.
+    parts: Whole,
+}
+
+impl Kilograms {
+    /// By the pattern of a float: a sign, eleven bits of exponent and 52 of fraction.
+    /// None where it is no number or not finite.
+    fn of(pattern: u64) -> Option<Kilograms> {
+        let (exponent, fraction) = (pattern >> 52 & 0x7ff, pattern & ((1 << 52) - 1));
+        let size = match exponent {
+            0x7ff => return None,
+            0 => Whole::shifted(fraction, 0),
+            _ => Whole::shifted(1 << 52 | fraction, exponent as usize - 1),
+        };
+        Some(Kilograms {
+            below_nought: pattern >> 63 == 1 && size != parts(0),
+            parts: size,
+        })
+    }
+
+    fn is_above(&self, other: &Kilograms) -> bool {
+        match (self.below_nought, other.below_nought) {
+            (true, true) => self.parts < other.parts,
+            (false, false) => self.parts > other.parts,
+            (_, other_below) => other_below,
+        }
+    }
+
+    /// Neither "below nought" nor "above 2000 kg".
+    fn is_load(&self) -> bool {
+        !self.below_nought && self.parts <= parts(2_000)
+    }
+
+    /// "The whole gram nearest to the float's exact value times 1000, a tie going to the
+    /// even gram", of a load: the grams below and above are found by halves, and it is
+    /// seen which of them is nearer.
+    fn grams(&self) -> i128 {
+        let exact = self.parts.times(1_000);
+        let (mut below, mut above) = (0, 2_000_001);
+        while above - below > 1 {
+            let middle = (below + above) / 2;
+            if parts(middle) <= exact {
+                below = middle;
+            } else {
+                above = middle;
+            }
+        }
+        let [to_below, to_above] = [below, above].map(|grams| parts(grams).apart(exact));
+        let even = if below % 2 == 0 { below } else { above };
+        i128::from(match to_below.cmp(&to_above) {
+            Ordering::Less => below,
+            Ordering::Equal => even,
+            Ordering::Greater => above,
+        })
+    }
+}
+
+/// "So a reading is each stable or moving with kilograms as a 64-bit float, or over":
+/// the float of a stable one by its pattern; that of a moving one counts for nothing.
+enum Reading {
+    Stable(u64),
+    Moving,
+    Over,
+}
+
+impl Reading {
+    /// None of "a reading not of nine bytes" or "a state other than 1 to 3".
+    fn of(bytes: &[u8]) -> Option<Reading> {
+        if bytes.len() != 9 {
+            return None;
+        }
+        let mut pattern = 0;
+        for byte in &bytes[1..] {
+            pattern = pattern * 256 + u64::from(*byte);
+        }
+        match bytes[0] {
+            1 => Some(Reading::Stable(pattern)),
+            2 => Some(Reading::Moving),
+            3 => Some(Reading::Over),
+            _ => None,
+        }
+    }
+}
+
+/// The float of a stable reading; any other is refused with 13.
+fn stable(message: &Message) -> Result<u64, u64> {
+    match Reading::of(&message.bytes) {
+        Some(Reading::Stable(pattern)) => Ok(pattern),
+        Some(Reading::Moving | Reading::Over) | None => Err(UNSTEADY),
+    }
+}
+
+/// The grams of a stable reading with its cell's zero taken off, or where it is turned
+/// round of the zero with the reading taken off; refused with 14.
+fn net_grams(reading: u64, cell: &Cell, turned: bool) -> Result<u64, u64> {
+    let number = |pattern| Kilograms::of(pattern).ok_or(BAD_LOAD);
+    let (reading, rated, zero) = (number(reading)?, number(cell.rated)?, number(cell.zero)?);
+    if !reading.is_load() || reading.is_above(&rated) || !zero.is_load() {
+        return Err(BAD_LOAD);
+    }
+    let net = if turned {
+        zero.grams() - reading.grams()
+    } else {
+        reading.grams() - zero.grams()
+    };
+    u64::try_from(net).map_err(|_| BAD_LOAD)
+}
+
+/// The paired weighing that four messages feed; refused with 13, "over all four", and
+/// then with 14.
+pub fn weighed_by_indicator(x: &Indicated) -> Result<Paired, u64> {
+    let p = stable(&x.p)?;
+    let q = stable(&x.q)?;
+    let p2 = stable(&x.p2)?;
+    let q2 = stable(&x.q2)?;
+    let holds_ballast = x.m == 4;
+    Ok(Paired {
+        m: x.m,
+        p: net_grams(p, &x.p.cell, false)?,
+        q: net_grams(q, &x.q.cell, holds_ballast)?,
+        p2: net_grams(p2, &x.p2.cell, false)?,
+        q2: net_grams(q2, &x.q2.cell, holds_ballast)?,
+        a: x.a,
+        b: x.b,
+        n: x.n,
+    })
+}
+
 // ---- The journal ----
 
 impl Journal {
@@ -417,6 +671,10 @@ impl Journal {
         match call {
             Call::Weigh(w) => self.add(self.weighing_number(&alike(w)), Entry::Weighing(*w)),
             Call::Pair(x) => self.add(self.weighing_number(&both(x)), Entry::Paired(*x)),
+            Call::Indicate(x) => match weighed_by_indicator(x) {
+                Ok(paired) => self.call(&Call::Pair(paired)),
+                Err(number) => number,
+            },
             Call::Install(s) => self.add(self.sheet_number(s), Entry::Sheet(*s)),
             Call::Change(c) => self.add(self.change_number(c), Entry::Change(*c)),
             Call::Seat(s) => self.add(self.seat_number(s), Entry::Seat(*s)),

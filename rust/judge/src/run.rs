@@ -5,9 +5,10 @@
 use crate::direct;
 use crate::fast;
 use crate::generate::Case;
-use crate::paper::{Call, Centre, Change, Columns, Counts, Journal};
+use crate::paper::{Call, Cell, Centre, Change, Columns, Counts, Indicated, Journal, Message};
 use crate::paper::{Paired, Seat, Sheet, Weighing};
 use std::marker::PhantomData;
+use std::sync::LazyLock;
 
 /// A placard of more tests of the limits than this takes plain loops too long.
 pub const WORK: u64 = 2_000_000;
@@ -357,8 +358,8 @@ pub struct Inventory {
     pub record: Vec<u8>,
 }
 
-/// A part, a weighing, the same read again, a sheet and a seat, to be put into a
-/// record that was found.
+/// A part, a weighing, the same read again and by an indicator, a sheet and a seat, to be
+/// put into a record that was found.
 const PART: Change = Change {
     c: 700,
     arm: -90_000,
@@ -382,6 +383,22 @@ const AGAIN: Paired = Paired {
     b: 413_000,
     n: 146_700,
 };
+/// On cells with a zero of three quarters of a kilogram.
+fn indicated() -> Indicated {
+    let [zero, rated] = [0.75_f64, 500.0].map(f64::to_bits);
+    let sent = |kilograms: f64| Message::stable(kilograms.to_bits(), Cell { rated, zero });
+    Indicated {
+        m: 1,
+        p: sent(288.75),
+        q: sent(38.05),
+        p2: sent(288.755),
+        q2: sent(38.03),
+        a: 9_900,
+        b: 413_000,
+        n: 146_700,
+    }
+}
+
 const INSTALLED: Sheet = Sheet {
     fwd: 25_000,
     aft: 42_500,
@@ -410,16 +427,32 @@ pub const BEHIND: usize = 90;
 
 /// What is called on a record that was found: each call as the first, so that it
 /// meets the file in the version that it was found in, and calls that are refused.
-static LATER: [&[Call]; 7] = [
-    &[Call::Change(PART), Call::Undo, Call::Undo],
-    &[Call::Undo, Call::Pair(AGAIN)],
-    &[Call::Pair(AGAIN), Call::Change(PART)],
-    &[Call::Weigh(WEIGHED), Call::Undo],
-    &[Call::Install(INSTALLED), Call::Undo],
-    &[Call::Seat(ADJUSTED), Call::Change(PART), Call::Undo],
-    &[
+static LATER: LazyLock<[Vec<Call>; 9]> = LazyLock::new(|| {
+    [
+        vec![Call::Change(PART), Call::Undo, Call::Undo],
+        vec![Call::Undo, Call::Pair(AGAIN)],
+        vec![Call::Pair(AGAIN), Call::Change(PART)],
+        vec![Call::Weigh(WEIGHED), Call::Undo],
+        vec![Call::Install(INSTALLED), Call::Undo],
+        vec![Call::Seat(ADJUSTED), Call::Change(PART), Call::Undo],
+        vec![Call::Indicate(indicated()), Call::Change(PART)],
+        vec![Call::Undo, Call::Indicate(indicated()), Call::Undo],
+        refused(),
+    ]
+});
+
+/// Calls that every record refuses.
+fn refused() -> Vec<Call> {
+    let good = indicated();
+    let mut moving = good.clone();
+    moving.q2.bytes[0] = 2;
+    let mut heavy = good;
+    heavy.p2.cell.rated = 288.0_f64.to_bits();
+    vec![
         Call::Weigh(Weighing { m: 0, ..WEIGHED }),
         Call::Pair(Paired { p2: 0, ..AGAIN }),
+        Call::Indicate(moving),
+        Call::Indicate(heavy),
         Call::Install(Sheet {
             dry: 0,
             ..INSTALLED
@@ -430,13 +463,13 @@ static LATER: [&[Call]; 7] = [
             ..ADJUSTED
         }),
         Call::Read(Vec::new()),
-    ],
-];
+    ]
+}
 
 /// The calls on what a case reads back last, where that is lent as it is: the
 /// case's fill says which.
 pub fn later(case: &Case) -> &'static [Call] {
-    LATER[usize::from(case.fill) % LATER.len()]
+    &LATER[usize::from(case.fill) % LATER.len()]
 }
 
 impl Trial<'_> {

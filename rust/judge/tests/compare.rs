@@ -1,7 +1,9 @@
 //! The direct and the fast functions against the paper on generated cases.
 
+use judge::classes::{messages, CLASSES};
 use judge::generate::{case, Case};
-use judge::paper::{Call, Columns, Entry, Journal, Seat, Sheet};
+use judge::paper::{weighed_by_indicator, Call, Columns, Entry, Indicated, Journal};
+use judge::paper::{Seat, Sheet};
 use judge::run::{front_file, Answers, By, Direct, Fast, Guarded, Inventory, Lent, Paper, Plate};
 use judge::run::{Trial, WORK};
 
@@ -10,7 +12,7 @@ const SEED: u64 = 1;
 
 /// How often each number was given by a call, a centre, a placard or the equipment.
 #[derive(Default)]
-struct Numbers([u64; 13]);
+struct Numbers([u64; 15]);
 
 impl Numbers {
     fn add(&mut self, answers: &Answers, plate: &Plate, inventory: &Inventory) {
@@ -127,6 +129,88 @@ impl Card5 {
     }
 }
 
+/// Weighings by an indicator, accepted, of method 4 and accepted, refused with 13, with 14
+/// and with another number; placards whose weighing came so, and those of method 4 among
+/// them; messages of each class; 13 and 14 on a full record, and 9; and 13 where the last
+/// message alone is not steady and the first one is refused too.
+#[derive(Default)]
+struct Card6 {
+    numbers: [u64; 5],
+    placards: [u64; 2],
+    classes: [u64; CLASSES.len()],
+    full: [u64; 3],
+    together: u64,
+}
+
+impl Card6 {
+    fn add(&mut self, calls: &[Call], answers: &Answers) {
+        for ((call, number), before) in calls.iter().zip(&answers.numbers).zip(&answers.buffers) {
+            let Call::Indicate(x) = call else {
+                continue;
+            };
+            match number {
+                0 => {
+                    self.numbers[0] += 1;
+                    self.numbers[1] += u64::from(x.m == 4);
+                }
+                13 | 14 => self.numbers[*number as usize - 11] += 1,
+                _ => self.numbers[4] += 1,
+            }
+            for (count, (_, is_of)) in self.classes.iter_mut().zip(CLASSES) {
+                *count += messages(x).into_iter().filter(|of| is_of(of)).count() as u64;
+            }
+            let is_full = before.get(5) == Some(&64);
+            for (count, due) in self.full.iter_mut().zip([13, 14, 9]) {
+                *count += u64::from(is_full && *number == due);
+            }
+            self.together += u64::from(*number == 13 && refused_first_and_last(x));
+        }
+    }
+
+    fn assert_reached(&self) {
+        assert_all_over(500, &self.numbers);
+        assert_all_over(250, &self.placards);
+        assert_all_over(10, &self.classes);
+        assert_all_over(25, &self.full);
+        assert_all_over(25, &[self.together]);
+    }
+
+    /// The placard's weighing, where an indicator sent the last one that was accepted and
+    /// nothing was taken or read back behind it.
+    fn add_placard(&mut self, calls: &[Call], answers: &Answers) {
+        let mut accepted = calls
+            .iter()
+            .zip(&answers.numbers)
+            .filter(|(_, number)| **number == 0)
+            .map(|(call, _)| call)
+            .rev();
+        let deciding = accepted
+            .find(|call| !matches!(call, Call::Install(_) | Call::Change(_) | Call::Seat(_)));
+        if let Some(Call::Indicate(x)) = deciding {
+            self.placards[0] += 1;
+            self.placards[1] += u64::from(x.m == 4);
+        }
+    }
+}
+
+/// Whether the first message is refused with 14 by itself, and of the others the last one
+/// alone with 13.
+fn refused_first_and_last(x: &Indicated) -> bool {
+    let first = || x.p.clone();
+    let q2 = first();
+    let last_as_first = Indicated { q2, ..x.clone() };
+    let (m, q, p2) = (1, first(), first());
+    let all_as_first = Indicated {
+        m,
+        q,
+        p2,
+        ..last_as_first.clone()
+    };
+    [all_as_first, last_as_first]
+        .iter()
+        .all(|x| weighed_by_indicator(x) == Err(14))
+}
+
 /// Changes behind the last weighing.
 fn changes_of(journal: &Journal) -> usize {
     let entries = journal.entries.iter().rev();
@@ -192,6 +276,7 @@ fn all_answer_as_the_paper_does() {
     let mut numbers = Numbers::default();
     let (mut card_1, mut card_2) = (Card1::default(), Card2::default());
     let (mut card_4, mut card_5) = (Card4::default(), Card5::default());
+    let mut card_6 = Card6::default();
     let (mut compared, mut rows, mut blank) = (0, 0, 0);
     for index in 0..CASES {
         let case = case(SEED, index);
@@ -204,6 +289,7 @@ fn all_answer_as_the_paper_does() {
         }
         card_1.add(&case.calls, &answers);
         card_4.add(&case.calls, &answers);
+        card_6.add(&case.calls, &answers);
         compared += 1;
         if let Ok(counts) = plate.answer {
             rows += counts.rows;
@@ -211,6 +297,7 @@ fn all_answer_as_the_paper_does() {
             let (journal, lines) = (paper.journal.unwrap(), &plate.bytes[..counts.bytes]);
             card_2.add(&journal.sheet().unwrap(), lines);
             card_4.add_ends(&journal, lines);
+            card_6.add_placard(&case.calls, &answers);
         }
     }
     // The cases are worth something only while they are spread well.
@@ -221,6 +308,7 @@ fn all_answer_as_the_paper_does() {
     assert_all_over(500, &card_4.calls);
     assert_all_over(500, &card_4.ends);
     assert_all_over(50, &card_5.0);
+    card_6.assert_reached();
     assert!(rows > 300_000 && blank > rows / 5 && blank < rows / 2);
 }
 

@@ -88,6 +88,108 @@ pub struct Paired {
     pub n: u64,
 }
 
+/// A load cell.
+#[derive(Clone, Copy, Debug, PartialEq)]
+pub struct Cell {
+    /// What it is rated for, in kilograms: the most that it may show. A reading is
+    /// compared with it as it was sent, before it is rounded and before the zero is taken
+    /// off. It may be above 2000 kg.
+    pub rated: f64,
+    /// What it shows without the glider, 0..2000 kg; at the tail in method 4 the jury
+    /// ballast is on it.
+    pub zero: f64,
+}
+
+/// What an indicator sends for one reading, and the cell that it is of.
+///
+/// A message is nine bytes: the state, 1 stable, 2 moving or 3 over, and then the reading
+/// in kilograms, a binary64 with its highest byte first. Only a stable one is taken; with
+/// any other the weighing is refused as [unsteady](crate::Refusal::Unsteady).
+///
+/// The reading is 0..2000 kg and at most what the cell is rated for. It becomes whole
+/// grams: the whole number nearest to its exact value times 1000, of two that are as near
+/// the even one. It is rounded once, from the exact value: 0.0025 lies above two and a
+/// half grams and is 3 g, 0.0055 lies below five and a half and is 5 g, and 0.0625, which
+/// is 62.5 g exactly, is 62 g. A zero's grams are found alike.
+#[derive(Clone, Copy, Debug, PartialEq)]
+pub struct Message<'a> {
+    /// The bytes that were sent.
+    pub bytes: &'a [u8],
+    /// The cell that they are of.
+    pub cell: Cell,
+}
+
+impl<'a> Message<'a> {
+    /// The bytes that were sent, and the cell that they are of.
+    pub const fn new(bytes: &'a [u8], cell: Cell) -> Message<'a> {
+        Message { bytes, cell }
+    }
+}
+
+/// A paired weighing as an indicator sends it.
+///
+/// What is added is an ordinary [`Paired`] weighing of the four nets, in whole grams: the
+/// reading's grams with those of the cell's zero taken off. Of q and q' in method 4 it is
+/// the zero's with the reading's taken off: the zero of that cell holds the jury ballast,
+/// and the net is the lift. A net must not be below nought. Nothing of the cells and of
+/// the numbers that were sent is kept.
+///
+/// ```
+/// use nodhulika::{Cell, Indicated, Message, Record, Refusal, Weighing};
+///
+/// // 288 kg under the wheel; under the tail half a kilogram, which is that cell's zero:
+/// // the state, and then the float.
+/// let wheel = [1, 0x40, 0x72, 0x00, 0x00, 0x00, 0x00, 0x00, 0x00];
+/// let tail = [1, 0x3f, 0xe0, 0x00, 0x00, 0x00, 0x00, 0x00, 0x00];
+/// assert_eq!(wheel[1..], 288.0_f64.to_be_bytes());
+///
+/// let platform = Cell { rated: 500.0, zero: 0.0 };
+/// let hook = Cell { rated: 50.0, zero: 0.5 };
+/// let weighing = Indicated {
+///     m: Weighing::WHEEL_AND_TAIL,
+///     p: Message::new(&wheel, platform),
+///     q: Message::new(&tail, hook),
+///     p2: Message::new(&wheel, platform),
+///     q2: Message::new(&tail, hook),
+///     a: 63_334,
+///     b: 500_000,
+///     n: 140_000,
+/// };
+/// let mut record = Record::new();
+/// record.weigh_indicated(&weighing)?;
+/// assert_eq!(record.centre_of_gravity()?.total, 2 * 288_000);
+///
+/// // The glider still swings.
+/// let mut moving = wheel;
+/// moving[0] = 2;
+/// let p2 = Message::new(&moving, platform);
+/// assert_eq!(
+///     record.weigh_indicated(&Indicated { p2, ..weighing }),
+///     Err(Refusal::Unsteady)
+/// );
+/// # Ok::<(), Refusal>(())
+/// ```
+#[derive(Clone, Copy, Debug, PartialEq)]
+pub struct Indicated<'a> {
+    /// The method, 1..4: one of the constants of [`Weighing`].
+    pub m: u64,
+    /// The first reading p.
+    pub p: Message<'a>,
+    /// The first reading q.
+    pub q: Message<'a>,
+    /// The second reading p'.
+    pub p2: Message<'a>,
+    /// The second reading q'.
+    pub q2: Message<'a>,
+    /// The distance a, as in a [`Weighing`].
+    pub a: i64,
+    /// The distance b, as in a [`Weighing`].
+    pub b: u64,
+    /// The weight of the non-lifting parts, in grams: at most the smaller of the
+    /// two totals.
+    pub n: u64,
+}
+
 /// Where a load goes.
 #[derive(Clone, Copy, Debug, PartialEq, Eq, Hash)]
 pub struct Station {

@@ -32,7 +32,7 @@
 //! ```
 
 use crate::sys::{self, ANSWER};
-use crate::{CentreOfGravity, Change, Counts, Paired, Refusal, Seat, Sheet, Weighing};
+use crate::{CentreOfGravity, Change, Counts, Indicated, Paired, Refusal, Seat, Sheet, Weighing};
 
 /// Begins a fresh record, one with no entry, whatever the buffer holds.
 ///
@@ -83,6 +83,22 @@ pub fn weigh(buffer: &mut [u8], weighing: &Weighing) -> Result<(), Refusal> {
 /// [`Refusal::NonLifting`], [`Refusal::Short`].
 pub fn weigh_paired(buffer: &mut [u8], paired: &Paired) -> Result<(), Refusal> {
     outcome(sys::weigh_paired(buffer, paired))
+}
+
+/// Adds a paired weighing as an indicator sends it.
+///
+/// What is added is an ordinary paired weighing of the nets; how they come from the
+/// messages is said with [`Indicated`] and [`Message`](crate::Message). A condition of any
+/// of the four readings counts, in this order: one that is unsteady is looked for in all
+/// of them before a load out of its range in any, and both before all that the weighing is
+/// refused for, a full record among it.
+///
+/// # Errors
+///
+/// [`Refusal::File`], [`Refusal::Unsteady`], [`Refusal::Load`], [`Refusal::Full`],
+/// [`Refusal::Reading`], [`Refusal::Arm`], [`Refusal::NonLifting`], [`Refusal::Short`].
+pub fn weigh_indicated(buffer: &mut [u8], indicated: &Indicated) -> Result<(), Refusal> {
+    outcome(sys::weigh_indicated(buffer, indicated))
 }
 
 /// Adds a data sheet; the last one is in force.
@@ -252,7 +268,7 @@ fn numbers(answer: &[u8; ANSWER]) -> [u64; 3] {
 
 /// What a number of the library's means.
 ///
-/// The library is proved to answer 0 to 12. Another number says that a different
+/// The library is proved to answer 0 to 14. Another number says that a different
 /// archive was linked, whose answers mean nothing: there is no going on.
 fn outcome(number: u64) -> Result<(), Refusal> {
     if number == 0 {

@@ -21,7 +21,9 @@
 //! A moment is weight times arm. Everywhere a weight is at most 2,000,000 and an
 //! arm lies in −2,000,000..2,000,000. Any value may be given: what is out of its
 //! range is refused. Only what a glider's centre of gravity comes from, its total
-//! and moment, is answered in half grams: see [`CentreOfGravity`].
+//! and moment, is answered in half grams: see [`CentreOfGravity`]. Only what a load cell
+//! and its indicator show is in kilograms, as [`Message`] and [`Cell`] have it; of it no
+//! more than whole grams is kept.
 //!
 //! # Files
 //!
@@ -75,6 +77,7 @@ mod refusal;
 #[allow(unsafe_code)]
 mod sys;
 
+pub use entry::{Cell, Indicated, Message};
 pub use entry::{CentreOfGravity, Change, Counts, Equipment};
 pub use entry::{Paired, Seat, Sheet, Station, Weighing};
 pub use record::Record;

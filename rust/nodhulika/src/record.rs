@@ -3,7 +3,9 @@
 use std::fmt;
 
 use crate::{lent, LONGEST_FILE, LONGEST_PLACARD, MOST_ARMS};
-use crate::{CentreOfGravity, Change, Counts, Equipment, Paired, Refusal, Seat, Sheet, Weighing};
+use crate::{
+    CentreOfGravity, Change, Counts, Equipment, Indicated, Paired, Refusal, Seat, Sheet, Weighing,
+};
 
 /// The record of a glider: its accepted weighings, plain and paired, data sheets,
 /// changes and adjustable seats, at most 64, in order.
@@ -93,6 +95,17 @@ impl Record {
     /// [`Refusal::NonLifting`], each of either reading.
     pub fn weigh_paired(&mut self, paired: &Paired) -> Result<(), Refusal> {
         lent::weigh_paired(&mut self.buffer[..], paired)
+    }
+
+    /// Adds a paired weighing as an indicator sends it.
+    ///
+    /// # Errors
+    ///
+    /// [`Refusal::Unsteady`] of any of the four readings, then [`Refusal::Load`] of any,
+    /// then [`Refusal::Full`], [`Refusal::Reading`], [`Refusal::Arm`],
+    /// [`Refusal::NonLifting`].
+    pub fn weigh_indicated(&mut self, indicated: &Indicated) -> Result<(), Refusal> {
+        lent::weigh_indicated(&mut self.buffer[..], indicated)
     }
 
     /// Adds a data sheet; the last one is in force.

@@ -3,11 +3,12 @@
 use std::error::Error;
 use std::fmt;
 
-/// Why a call is refused, by the library's twelve numbers.
+/// Why a call is refused, by the library's fourteen numbers.
 ///
 /// A call gives the first, in the order that stands with it, whose condition
-/// holds; of a paired weighing it is enough that it holds of one reading. In what
-/// follows G is the glider's empty total and n its non-lifting weight.
+/// holds; of a paired weighing it is enough that it holds of one reading, and of one
+/// that an indicator sends of one of its four. In what follows G is the glider's
+/// empty total and n its non-lifting weight.
 #[derive(Clone, Copy, Debug, PartialEq, Eq, PartialOrd, Ord, Hash)]
 #[repr(u64)]
 pub enum Refusal {
@@ -38,11 +39,18 @@ pub enum Refusal {
     Short = 11,
     /// The bytes are not the file of any record that accepted calls give.
     File = 12,
+    /// A message of an indicator is not of nine bytes, has a state other than 1 to 3,
+    /// or is moving or over.
+    Unsteady = 13,
+    /// A cell's rating, its zero or a reading of an indicator is not finite; the
+    /// reading is below nought, above the rating or above 2000 kg; the zero is below
+    /// nought or above 2000 kg; or the net is below nought.
+    Load = 14,
 }
 
 impl Refusal {
     /// All of them, by rising number.
-    pub const ALL: [Refusal; 12] = [
+    pub const ALL: [Refusal; 14] = [
         Refusal::Reading,
         Refusal::Arm,
         Refusal::NonLifting,
@@ -55,9 +63,11 @@ impl Refusal {
         Refusal::Bare,
         Refusal::Short,
         Refusal::File,
+        Refusal::Unsteady,
+        Refusal::Load,
     ];
 
-    /// The library's number, 1 to 12.
+    /// The library's number, 1 to 14.
     ///
     /// ```
     /// assert_eq!(nodhulika::Refusal::Unweighed.number(), 7);
@@ -76,7 +86,7 @@ impl From<Refusal> for u64 {
 impl TryFrom<u64> for Refusal {
     type Error = UnknownNumber;
 
-    /// The refusal of a number from 1 to 12.
+    /// The refusal of a number from 1 to 14.
     fn try_from(number: u64) -> Result<Refusal, UnknownNumber> {
         Refusal::ALL
             .into_iter()
@@ -100,13 +110,15 @@ impl fmt::Display for Refusal {
             Refusal::Bare => "there is nothing to take back",
             Refusal::Short => "the buffer is too short",
             Refusal::File => "the bytes are no record's file",
+            Refusal::Unsteady => "a reading is not nine bytes, or not stable",
+            Refusal::Load => "a rating, a zero, a reading or its net is out of range",
         })
     }
 }
 
 impl Error for Refusal {}
 
-/// A number that is not one of a refusal's, which are 1 to 12.
+/// A number that is not one of a refusal's, which are 1 to 14.
 #[derive(Clone, Copy, Debug, PartialEq, Eq)]
 pub struct UnknownNumber(
     /// The number.

@@ -3,15 +3,17 @@
 //! The library asks the same of every call. A slice is passed as a pointer that
 //! is not null and is valid for the length, even where that is 0, and the length
 //! is at most `isize::MAX` bytes: every Rust slice is so. A column of numbers is
-//! a slice too, and its pointer is aligned for them. The slices of one call do
-//! not overlap, since at most one of them is only read: a `&mut` slice overlaps no
-//! other reference that is alive. It asks nothing of the numbers, nor of what the
-//! bytes hold: the functions are proved for every argument to stay within their
-//! slices, to end and never to unwind. They keep no pointer and no state.
+//! a slice too, and its pointer is aligned for them. A slice that a call writes
+//! overlaps no other slice of it: a `&mut` slice overlaps no other reference that is
+//! alive. Those that it only reads may overlap one another where there are several of
+//! them, which are the messages of an indicator. It asks nothing of the numbers, of
+//! floats no more than of whole ones, nor of what the bytes hold: the functions are proved
+//! for every argument to stay within their slices, to end and never to unwind. They keep no
+//! pointer and no state.
 //!
 //! Each function here answers the library's number, 0 where it is accepted.
 
-use crate::{Change, Paired, Seat, Sheet, Weighing};
+use crate::{Change, Indicated, Paired, Seat, Sheet, Weighing};
 
 /// Bytes of an answer: three numbers of eight bytes each.
 pub(crate) const ANSWER: usize = 24;
@@ -47,6 +49,33 @@ extern "C" {
         q: u64,
         p2: u64,
         q2: u64,
+        a: i64,
+        b: u64,
+        n: u64,
+    ) -> u64;
+
+    /// Sound with a `&mut` slice, four `&` slices, which it cannot overlap, and any
+    /// numbers: only reads the four.
+    fn nodhulika_weigh_indicated(
+        buffer: *mut u8,
+        buffer_length: usize,
+        m: u64,
+        p: *const u8,
+        p_length: usize,
+        p_rated: f64,
+        p_zero: f64,
+        q: *const u8,
+        q_length: usize,
+        q_rated: f64,
+        q_zero: f64,
+        p2: *const u8,
+        p2_length: usize,
+        p2_rated: f64,
+        p2_zero: f64,
+        q2: *const u8,
+        q2_length: usize,
+        q2_rated: f64,
+        q2_zero: f64,
         a: i64,
         b: u64,
         n: u64,
@@ -155,6 +184,37 @@ pub(crate) fn weigh_paired(buffer: &mut [u8], x: &Paired) -> u64 {
             x.q,
             x.p2,
             x.q2,
+            x.a,
+            x.b,
+            x.n,
+        )
+    }
+}
+
+pub(crate) fn weigh_indicated(buffer: &mut [u8], x: &Indicated) -> u64 {
+    // SAFETY: pointers and lengths are those of five slices; the one that is written is
+    // exclusive, so it overlaps none of the four that are read.
+    unsafe {
+        nodhulika_weigh_indicated(
+            buffer.as_mut_ptr(),
+            buffer.len(),
+            x.m,
+            x.p.bytes.as_ptr(),
+            x.p.bytes.len(),
+            x.p.cell.rated,
+            x.p.cell.zero,
+            x.q.bytes.as_ptr(),
+            x.q.bytes.len(),
+            x.q.cell.rated,
+            x.q.cell.zero,
+            x.p2.bytes.as_ptr(),
+            x.p2.bytes.len(),
+            x.p2.cell.rated,
+            x.p2.cell.zero,
+            x.q2.bytes.as_ptr(),
+            x.q2.bytes.len(),
+            x.q2.cell.rated,
+            x.q2.cell.zero,
             x.a,
             x.b,
             x.n,

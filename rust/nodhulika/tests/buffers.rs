@@ -3,9 +3,10 @@
 mod common;
 
 use common::{case_g, full, lent, CHANGE, FREE, HEADER, PAIRED, SEAT, SHEET, WEIGHING};
-use common::{G_PAIRED, G_PLACARD, G_SEAT, G_SHEET, G_WEIGHING, H_CHANGE};
+use common::{G_INDICATED, G_PAIRED, G_PLACARD, G_SEAT, G_SHEET, G_WEIGHING, H_CHANGE};
 use nodhulika::lent::{
-    change, check, file, fresh, placard, read, seat, sheet, undo, weigh, weigh_paired,
+    change, check, file, fresh, placard, read, seat, sheet, undo, weigh, weigh_indicated,
+    weigh_paired,
 };
 use nodhulika::{Record, Refusal, Sheet, LONGEST_FILE, LONGEST_PLACARD};
 
@@ -33,6 +34,9 @@ fn an_entry_takes_its_own_bytes_and_no_more() {
     let record = case_g();
     grows(&record, WEIGHING, |buffer| weigh(buffer, &G_WEIGHING));
     grows(&record, PAIRED, |buffer| weigh_paired(buffer, &G_PAIRED));
+    grows(&record, PAIRED, |buffer| {
+        weigh_indicated(buffer, &G_INDICATED)
+    });
     grows(&record, SHEET, |buffer| sheet(buffer, &G_SHEET));
     grows(&record, CHANGE, |buffer| change(buffer, &H_CHANGE));
     grows(&record, SEAT, |buffer| seat(buffer, &G_SEAT));

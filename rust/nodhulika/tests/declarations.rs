@@ -130,6 +130,7 @@ fn rust_type(c_type: &str) -> &str {
         "int64_t *" => "*mut i64",
         "uint64_t *" => "*mut u64",
         "size_t" => "usize",
+        "double" => "f64",
         "uint64_t" => "u64",
         "int64_t" => "i64",
         _ => panic!("unknown type: {c_type}"),
@@ -181,7 +182,7 @@ fn promised(text: &str) -> BTreeMap<String, Vec<&str>> {
 fn the_exports_promise_what_is_proved() {
     let (exports, proved) = (rattle(), proved());
     let promises = promised(&exports);
-    assert_eq!(promises.len(), 12);
+    assert_eq!(promises.len(), 13);
     assert!(promises.values().all(|clauses| !clauses.is_empty()));
     assert_eq!(promises, promised(&proved));
 }
@@ -189,7 +190,7 @@ fn the_exports_promise_what_is_proved() {
 #[test]
 fn all_three_declare_the_same() {
     let exported = declared_in_rattle(&rattle());
-    assert_eq!(exported.len(), 12, "{exported:?}");
+    assert_eq!(exported.len(), 13, "{exported:?}");
     assert_eq!(declared_in_header(&header()), exported);
     assert_eq!(declared_in_rust(&rust()), exported);
 }
@@ -204,10 +205,16 @@ fn caught(text: &str, read: impl Fn(&str) -> Declared, edits: &[(&str, &str)]) {
 }
 
 #[test]
-fn a_declaration_that_drifts_is_caught() {
+fn a_header_that_drifts_is_caught() {
     let in_header = [
         ("uint64_t m, uint64_t p", "uint64_t p, uint64_t m"),
         ("uint64_t p2, uint64_t q2", "uint64_t q2, uint64_t p2"),
+        (
+            "double p_rated, double p_zero",
+            "double p_zero, double p_rated",
+        ),
+        ("double q2_zero", "uint64_t q2_zero"),
+        ("const uint8_t *q2", "uint8_t *q2"),
         ("int64_t c, int64_t arm", "int64_t c, uint64_t arm"),
         (
             "int64_t lower, int64_t higher",
@@ -221,22 +228,34 @@ fn a_declaration_that_drifts_is_caught() {
         ("uint64_t nodhulika_undo", "int64_t nodhulika_undo"),
     ];
     caught(&header(), declared_in_header, &in_header);
+}
+
+#[test]
+fn declarations_in_rust_that_drift_are_caught() {
     let in_rust = [
         ("front_least: u64", "front_most: u64"),
         ("a: i64", "a: u64"),
         ("p2: u64", "q2: u64"),
         ("lower: i64, higher: i64", "higher: i64, lower: i64"),
+        ("q_zero: f64", "q_zero: u64"),
+        ("q2_length: usize", "q_length: usize"),
         ("answer: *mut u8", "answer: *const u8"),
         ("weights_length: usize", "weights_length: u64"),
         ("count: *mut u64", "count: u64"),
         ("fn nodhulika_undo(", "fn nodhulika_redo("),
     ];
     caught(&rust(), declared_in_rust, &in_rust);
+}
+
+#[test]
+fn a_source_that_drifts_is_caught() {
     let in_rattle = [
         ("file: &[u8]", "file: &mut [u8]"),
         ("arm: i64, flag: u64", "flag: u64, arm: i64"),
         ("flag: u64) -> u64", "flag: u64) -> i64"),
         ("lower: i64, higher: i64", "lower: i64, higher: u64"),
+        ("p2_rated: f64", "p2_rated: u64"),
+        ("q2: &[u8]", "q2: &mut [u8]"),
         ("weights: &mut [i64]", "weights: &mut [u8]"),
         ("count: &mut u64", "count: u64"),
     ];

@@ -1,6 +1,6 @@
 /* What the header defines itself: its two inline functions, and what they read
- * of a record and of an answer. And a seat's ends and the columns of the equipment,
- * as C passes them. */
+ * of a record and of an answer. And a seat's ends, the columns of the equipment
+ * and the messages and cells of an indicator, as C passes them. */
 #include <stdio.h>
 #include <stdlib.h>
 
@@ -121,6 +121,36 @@ static void equipment_columns(void)
     EXPECT(arms[2] == 0 && nonlifting[2] == 0);
 }
 
+/* Four messages, each with a cell of its own, and the kilograms as C has them: in
+ * method 4 the zero less the reading for q and q2. Some are the same bytes. */
+static void indicator_messages(void)
+{
+    static const uint8_t p[] = {1, 0x40, 0x7c, 0xc8, 0, 0, 0, 0, 0};
+    static const uint8_t q[] = {1, 0x40, 0x15, 0, 0, 0, 0, 0, 0, 2};
+    uint8_t record[64], answer[NODHULIKA_ANSWER];
+    const double nought = 0.0;
+
+    EXPECT(nodhulika_fresh(record, sizeof record) == NODHULIKA_OK);
+    EXPECT(nodhulika_weigh_indicated(record, sizeof record, 4, p, 9, 500.0, 0.5,
+                                     q, 9, 50.0, 20.25, p, 9, 460.5, 0.499, q, 9,
+                                     5.25, 20.251, 3000, 10300,
+                                     0) == NODHULIKA_OK);
+    EXPECT(nodhulika_file_length(record) == 36);
+    EXPECT(nodhulika_centre(record, sizeof record, answer, sizeof answer) ==
+           NODHULIKA_OK);
+    EXPECT(nodhulika_answer_number(answer, 0) == 890000);
+    EXPECT(nodhulika_answer_number(answer, 1) == 2361000000 - 10300);
+    EXPECT(nodhulika_weigh_indicated(record, sizeof record, 4, p, 9, 500.0, 0.5,
+                                     q, 10, 50.0, 20.25, p, 9, 460.5, 0.5, q, 9,
+                                     5.25, 20.25, 3000, 10300,
+                                     0) == NODHULIKA_UNSTEADY);
+    EXPECT(nodhulika_weigh_indicated(record, sizeof record, 4, p, 9,
+                                     nought / nought, 0.5, q, 9, 50.0, 20.25, p,
+                                     9, 460.5, 0.5, q, 9, 5.25, 20.25, 3000,
+                                     10300, 0) == NODHULIKA_LOAD);
+    EXPECT(nodhulika_file_length(record) == 36);
+}
+
 int main(void)
 {
     file_lengths();
@@ -128,5 +158,6 @@ int main(void)
     half_grams();
     seat_ends();
     equipment_columns();
+    indicator_messages();
     return EXIT_SUCCESS;
 }

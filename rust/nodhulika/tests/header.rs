@@ -1,5 +1,5 @@
 //! The header for C: it compiles without a warning, its inline functions are
-//! right, and the example for C prints its plates. And the archive, which calls
+//! right, and the examples for C print what they should. And the archive, which calls
 //! nothing outside of itself.
 
 use std::env;
@@ -63,6 +63,24 @@ weighed twice: 288000.5 g, centre of gravity 63334
 the record's file has 119 bytes
 ";
     assert_eq!(String::from_utf8_lossy(&output.stdout), plates);
+}
+
+#[test]
+fn the_example_with_an_indicator_prints_what_came_of_it() {
+    let output = run("examples/indicator.c", "indicator");
+    assert!(
+        output.status.success(),
+        "{}",
+        String::from_utf8_lossy(&output.stderr)
+    );
+    let lines = "\
+not at rest: read again
+total 310200 g
+moment 19336900000 g x 0.01 mm
+centre of gravity 62337 x 0.01 mm
+the record's file has 36 bytes
+";
+    assert_eq!(String::from_utf8_lossy(&output.stdout), lines);
 }
 
 /// A handheld may have no C library: not even what compilers call by themselves,

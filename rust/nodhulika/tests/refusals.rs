@@ -3,11 +3,14 @@
 mod common;
 
 use common::{case_g, full, lent, of_version_1, FREE};
-use common::{G_PAIRED, G_SEAT, G_SHEET, G_WEIGHING, H_CHANGE};
-use nodhulika::lent::{
-    centre, change, check, equipment, fresh, placard, read, seat, sheet, undo, weigh, weigh_paired,
+use common::{
+    stable, G_INDICATED, G_PAIRED, G_SEAT, G_SHEET, G_TAIL, G_WEIGHING, G_WHEEL, H_CHANGE,
 };
-use nodhulika::{Change, Paired, Record, Refusal, Seat, Sheet, Weighing};
+use nodhulika::lent::{
+    centre, change, check, equipment, fresh, placard, read, seat, sheet, undo, weigh,
+    weigh_indicated, weigh_paired,
+};
+use nodhulika::{Change, Indicated, Message, Paired, Record, Refusal, Seat, Sheet, Weighing};
 use nodhulika::{UnknownNumber, LONGEST_FILE};
 
 /// Makes the call on the record at the front of a long buffer: it gets this
@@ -35,6 +38,15 @@ fn pair_refused(refusal: Refusal, edit: impl Fn(&mut Paired)) {
     let mut paired = G_PAIRED;
     edit(&mut paired);
     refused(&case_g(), refusal, |buffer| weigh_paired(buffer, &paired));
+}
+
+/// The paired weighing as an indicator sends it, with something changed in it.
+fn indicated_refused(refusal: Refusal, edit: impl Fn(&mut Indicated)) {
+    let mut weighing = G_INDICATED;
+    edit(&mut weighing);
+    refused(&case_g(), refusal, |buffer| {
+        weigh_indicated(buffer, &weighing)
+    });
 }
 
 /// The data sheet of case G with something changed in it.
@@ -90,10 +102,30 @@ fn number_1_reading_of_a_pair() {
 }
 
 #[test]
+fn number_1_reading_of_an_indicator() {
+    for m in [0, 5, u64::MAX] {
+        indicated_refused(Refusal::Reading, |x| x.m = m);
+    }
+    // A total of 0: the wheel shows no more than its zero.
+    let empty = stable(1.25);
+    let p = Message::new(&empty, G_WHEEL);
+    let light = Indicated {
+        n: 0,
+        ..G_INDICATED
+    };
+    for weighing in [Indicated { p, ..light }, Indicated { p2: p, ..light }] {
+        refused(&case_g(), Refusal::Reading, |buffer| {
+            weigh_indicated(buffer, &weighing)
+        });
+    }
+}
+
+#[test]
 fn number_2_arm() {
     for arm in [-2_000_001, 2_000_001, i64::MIN, i64::MAX] {
         weighing_refused(Refusal::Arm, |w| w.a = arm);
         pair_refused(Refusal::Arm, |x| x.a = arm);
+        indicated_refused(Refusal::Arm, |x| x.a = arm);
         change_refused(Refusal::Arm, |x| x.arm = arm);
         sheet_refused(Refusal::Arm, |s| s.fwd = arm);
         sheet_refused(Refusal::Arm, |s| s.aft = arm);
@@ -107,6 +139,7 @@ fn number_2_arm() {
     for b in [0, 2_000_001, u64::MAX] {
         weighing_refused(Refusal::Arm, |w| w.b = b);
         pair_refused(Refusal::Arm, |x| x.b = b);
+        indicated_refused(Refusal::Arm, |x| x.b = b);
     }
     // Reversed ends.
     seat_refused(Refusal::Arm, |s| s.lower = s.higher + 1);
@@ -120,6 +153,7 @@ fn number_3_non_lifting() {
         // Over the first total, and over the second one, which is then smaller.
         pair_refused(Refusal::NonLifting, |x| x.n = n);
         pair_refused(Refusal::NonLifting, |x| (x.p, x.p2, x.n) = (x.p2, x.p, n));
+        indicated_refused(Refusal::NonLifting, |x| x.n = n);
     }
     // One gram more taken out than the glider has of the kind.
     for (c, flag) in [(-140_001, Change::NON_LIFTING), (-148_001, Change::LIFTING)] {
@@ -209,6 +243,9 @@ fn number_9_full() {
     refused(&record, Refusal::Full, |buffer| {
         weigh_paired(buffer, &G_PAIRED)
     });
+    refused(&record, Refusal::Full, |buffer| {
+        weigh_indicated(buffer, &G_INDICATED)
+    });
     refused(&record, Refusal::Full, |buffer| sheet(buffer, &G_SHEET));
     refused(&record, Refusal::Full, |buffer| change(buffer, &H_CHANGE));
     refused(&record, Refusal::Full, |buffer| seat(buffer, &G_SEAT));
@@ -227,6 +264,7 @@ fn number_11_short() {
     for call in [
         |buffer: &mut [u8]| weigh(buffer, &G_WEIGHING),
         |buffer: &mut [u8]| weigh_paired(buffer, &G_PAIRED),
+        |buffer: &mut [u8]| weigh_indicated(buffer, &G_INDICATED),
         |buffer: &mut [u8]| sheet(buffer, &G_SHEET),
         |buffer: &mut [u8]| change(buffer, &H_CHANGE),
         |buffer: &mut [u8]| seat(buffer, &G_SEAT),
@@ -289,6 +327,7 @@ fn number_12_file() {
         for call in [
             |buffer: &mut [u8]| weigh(buffer, &G_WEIGHING),
             |buffer: &mut [u8]| weigh_paired(buffer, &G_PAIRED),
+            |buffer: &mut [u8]| weigh_indicated(buffer, &G_INDICATED),
             |buffer: &mut [u8]| sheet(buffer, &G_SHEET),
             |buffer: &mut [u8]| change(buffer, &H_CHANGE),
             |buffer: &mut [u8]| seat(buffer, &G_SEAT),
@@ -300,6 +339,61 @@ fn number_12_file() {
         }
         refused(&case_g(), Refusal::File, |buffer| read(buffer, bytes));
     }
+}
+
+/// Each of the four messages by itself.
+fn each_message_refused(refusal: Refusal, edit: impl Fn(&mut Message)) {
+    indicated_refused(refusal, |x| edit(&mut x.p));
+    indicated_refused(refusal, |x| edit(&mut x.q));
+    indicated_refused(refusal, |x| edit(&mut x.p2));
+    indicated_refused(refusal, |x| edit(&mut x.q2));
+}
+
+#[test]
+fn number_13_unsteady() {
+    for bytes in [
+        &[][..],
+        &[1],
+        &[1, 0x3f, 0xe0, 0, 0, 0, 0, 0],
+        &[1, 0x3f, 0xe0, 0, 0, 0, 0, 0, 0, 0],
+        &[0, 0x3f, 0xe0, 0, 0, 0, 0, 0, 0],
+        &[2, 0x3f, 0xe0, 0, 0, 0, 0, 0, 0],
+        &[3, 0x3f, 0xe0, 0, 0, 0, 0, 0, 0],
+        &[4, 0x3f, 0xe0, 0, 0, 0, 0, 0, 0],
+        &[0xff; 9],
+    ] {
+        indicated_refused(Refusal::Unsteady, |x| x.p = Message { bytes, ..x.p });
+        indicated_refused(Refusal::Unsteady, |x| x.q = Message { bytes, ..x.q });
+        indicated_refused(Refusal::Unsteady, |x| x.p2 = Message { bytes, ..x.p2 });
+        indicated_refused(Refusal::Unsteady, |x| x.q2 = Message { bytes, ..x.q2 });
+    }
+}
+
+#[test]
+fn number_14_load() {
+    for float in [
+        f64::NAN,
+        f64::INFINITY,
+        f64::NEG_INFINITY,
+        -1.0,
+        -f64::MIN_POSITIVE,
+    ] {
+        each_message_refused(Refusal::Load, |message| message.cell.rated = float);
+        each_message_refused(Refusal::Load, |message| message.cell.zero = float);
+        let bytes = &stable(float);
+        for place in 0..4 {
+            let mut weighing = G_INDICATED;
+            let Indicated { p, q, p2, q2, .. } = &mut weighing;
+            [p, q, p2, q2][place].bytes = bytes;
+            refused(&case_g(), Refusal::Load, |buffer| {
+                weigh_indicated(buffer, &weighing)
+            });
+        }
+    }
+    // Above the rating, and with a zero above 2000 kg, and above the reading.
+    each_message_refused(Refusal::Load, |message| message.cell.rated = 0.25);
+    each_message_refused(Refusal::Load, |message| message.cell.zero = 2000.5);
+    each_message_refused(Refusal::Load, |message| message.cell.zero = 400.0);
 }
 
 /// Where several conditions hold, the first in the call's order counts.
@@ -338,6 +432,42 @@ fn the_first_in_order_is_given() {
     assert_eq!(tight, case_g().as_bytes());
 }
 
+/// 13 of any of the four before 14 of any, and both before a full record.
+#[test]
+fn the_first_in_order_is_given_of_an_indicator() {
+    let moving = [2, 0x3f, 0xe0, 0, 0, 0, 0, 0, 0];
+    let mut weighing = Indicated {
+        m: 5,
+        b: 0,
+        n: u64::MAX,
+        q2: Message::new(&moving, G_TAIL),
+        ..G_INDICATED
+    };
+    weighing.p.cell.rated = f64::NAN;
+    let tight = case_g().as_bytes().to_vec();
+    for refusal in [Refusal::Unsteady, Refusal::Load] {
+        for record in [Record::new(), case_g(), full()] {
+            refused(&record, refusal, |buffer| {
+                weigh_indicated(buffer, &weighing)
+            });
+        }
+        let mut buffer = tight.clone();
+        assert_eq!(weigh_indicated(&mut buffer, &weighing), Err(refusal));
+        assert_eq!(
+            weigh_indicated(&mut buffer[1..], &weighing),
+            Err(Refusal::File)
+        );
+        assert_eq!(buffer, tight);
+        weighing.q2 = G_INDICATED.q2;
+    }
+    weighing.p = G_INDICATED.p;
+    refused(&full(), Refusal::Full, |buffer| {
+        weigh_indicated(buffer, &weighing)
+    });
+    indicated_refused(Refusal::Reading, |x| (x.m, x.b, x.n) = (5, 0, u64::MAX));
+    indicated_refused(Refusal::Arm, |x| (x.b, x.n) = (0, u64::MAX));
+}
+
 #[test]
 fn the_first_in_order_is_given_of_a_seat() {
     let reversed = Seat {
@@ -369,6 +499,9 @@ fn an_owned_record_is_left_by_a_refusal() {
     );
     let light = Paired { p2: 0, ..G_PAIRED };
     assert_eq!(record.weigh_paired(&light), Err(Refusal::Reading));
+    let mut heavy = G_INDICATED;
+    heavy.p2.cell.rated = 289.0;
+    assert_eq!(record.weigh_indicated(&heavy), Err(Refusal::Load));
     assert_eq!(
         record.install(&Sheet { dry: 0, ..G_SHEET }),
         Err(Refusal::Sheet)
@@ -391,7 +524,7 @@ fn numbers_and_words() {
         assert_eq!(Refusal::try_from(number), Ok(refusal));
         assert!(!refusal.to_string().is_empty());
     }
-    for number in [0, 13, u64::MAX] {
+    for number in [0, 15, u64::MAX] {
         assert_eq!(Refusal::try_from(number), Err(UnknownNumber(number)));
     }
 }

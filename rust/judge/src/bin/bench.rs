@@ -15,12 +15,15 @@
 //! `RUSTFLAGS="-C link-arg=-Wl,--defsym=nodhulika_seat=0"`; of one from before paired
 //! weighings with the same argument for `nodhulika_weigh_paired` beside it. One from
 //! before the equipment by station wants the argument for `nodhulika_equipment`, and
-//! `NO_EQUIPMENT` set when the bench is run, to anything.
+//! `NO_EQUIPMENT` set when the bench is run, to anything; one from before the indicator
+//! that for `nodhulika_weigh_indicated`, and `NO_INDICATOR` set.
 
 #![forbid(unsafe_code)]
 
+use judge::direct::nets;
 use judge::generate::{case, Case};
-use judge::paper::{Call, Change, Columns, Counts, Paired, Seat, Sheet, Weighing};
+use judge::paper::{Call, Cell, Change, Columns, Counts, Indicated, Message};
+use judge::paper::{Paired, Seat, Sheet, Weighing};
 use judge::run::{front_file, Calls, Fast};
 use library::Library;
 use std::env;
@@ -119,6 +122,24 @@ const PAIRED: Paired = Paired {
     n: 190_000,
 };
 
+/// The same from an indicator: floats that are no whole grams, and each cell's zero.
+fn indicated() -> Call {
+    let sent = |reading: f64, rated: f64, zero: f64| {
+        let [rated, zero] = [rated, zero].map(f64::to_bits);
+        Message::stable(reading.to_bits(), Cell { rated, zero })
+    };
+    Call::Indicate(Indicated {
+        m: 1,
+        p: sent(421.337, 1_000.0, 1.337),
+        q: sent(38.2104, 100.0, 0.21),
+        p2: sent(421.352, 1_000.0, 1.337),
+        q2: sent(38.1997, 100.0, 0.21),
+        a: 12_500,
+        b: 525_000,
+        n: 190_000,
+    })
+}
+
 /// Its sheet but for the rows; with 16 by 16 of them none is blank.
 const SHEET: Sheet = Sheet {
     fwd: 15_000,
@@ -153,6 +174,16 @@ fn parts_at(arms: usize) -> Vec<Change> {
         ..PARTS[i % PARTS.len()]
     };
     (0..MOST_ARMS).map(part).collect()
+}
+
+/// A weighing and those parts.
+fn equipped<C: Calls>(arms: usize) -> Vec<u8> {
+    let mut record = Builder::<C>::new();
+    record.put(&Call::Weigh(WEIGHING));
+    for part in parts_at(arms) {
+        record.put(&Call::Change(part));
+    }
+    record.file()
 }
 
 /// The sheet with one row, or with a multiple of 16.
@@ -215,6 +246,33 @@ fn two_seater<C: Calls>(entries: usize, rows: usize) -> Vec<u8> {
     record.file()
 }
 
+/// Bytes of a record's head and of a paired weighing.
+const HEAD: usize = 6;
+const SENT: usize = 30;
+
+/// A record of so many entries, with the place of a paired weighing behind it, where the
+/// one that an indicator sends has stood already.
+fn before_sent<C: Calls>(entries: usize) -> Vec<u8> {
+    let file = if entries == 0 {
+        Builder::<C>::new().file()
+    } else {
+        two_seater::<C>(entries, 16)
+    };
+    let mut buffer = [&file[..], &[0; SENT]].concat();
+    assert_eq!(C::call(&mut buffer, &indicated()), 0);
+    buffer[..HEAD].copy_from_slice(&file[..HEAD]);
+    buffer
+}
+
+/// Makes a call, which is taken back by the record's head alone, so that the call is all
+/// that counts.
+fn call_and_forget<C: Calls>(record: &mut [u8], call: &Call) -> u64 {
+    let head: [u8; HEAD] = *record.first_chunk().expect("a record has a head");
+    let number = C::call(record, black_box(call));
+    record[..HEAD].copy_from_slice(&head);
+    number
+}
+
 /// Seed of the fleet, its gliders, and the generator's kinds that they are of:
 /// realistic ones and, one in fifteen, those with up to 256 rows.
 const SEED: u64 = 1;
@@ -229,9 +287,10 @@ fn glider(i: usize) -> Case {
     case(SEED, (KINDS * i + kind) as u64)
 }
 
-/// The call with one reading, where it has two.
+/// The call with one reading, where it has two, whether or not an indicator sent them.
 fn plain(call: &Call) -> Call {
     match call {
+        Call::Indicate(x) => plain(&Call::Pair(nets(x).expect("it is accepted"))),
         Call::Pair(x) => Call::Weigh(Weighing {
             m: x.m,
             p: x.p,
@@ -293,10 +352,13 @@ enum Job {
     CheckSeats,
     /// The equipment by station of a weighing and 63 changes at so many arms.
     Equipment { arms: usize },
+    /// A weighing by an indicator on a record of so many entries: none, or a weighing,
+    /// changes and a sheet.
+    Indicator { entries: usize },
 }
 
 /// The lines of the benchmark.
-const LINES: [(&str, Job); 10] = [
+const LINES: [(&str, Job); 12] = [
     (
         "a. placard of 256 rows, 64 entries",
         Job::Placard {
@@ -322,15 +384,24 @@ const LINES: [(&str, Job); 10] = [
         "f. equipment of 63 changes at eight arms",
         Job::Equipment { arms: 8 },
     ),
+    (
+        "g. a weighing by an indicator on 8 entries",
+        Job::Indicator { entries: 8 },
+    ),
+    (
+        "g. a weighing by an indicator on a fresh record",
+        Job::Indicator { entries: 0 },
+    ),
 ];
 
 /// Those that the linked library can run, by the files that it takes: an older one
-/// has no paired weighings or no seats, or is said to have no equipment.
+/// has no paired weighings or no seats, or is said to have no equipment or no indicator.
 fn lines() -> Vec<(&'static str, Job)> {
     let takes = |job: Job| Library::check(&job.desk::<Fast>().records[0]) == 0;
     let runs = |job| match job {
         Job::CheckPairs | Job::CheckSeats => takes(job),
         Job::Equipment { .. } => env::var_os("NO_EQUIPMENT").is_none(),
+        Job::Indicator { .. } => env::var_os("NO_INDICATOR").is_none(),
         _ => true,
     };
     LINES.into_iter().filter(|(_, job)| runs(*job)).collect()
@@ -340,6 +411,8 @@ fn lines() -> Vec<(&'static str, Job)> {
 #[derive(Clone, PartialEq)]
 struct Desk {
     records: Vec<Vec<u8>>,
+    /// What an indicator sends.
+    sent: Call,
     plate: Vec<u8>,
     /// Columns of arms, net weights and net non-lifting weights.
     columns: [[i64; MOST_ARMS]; 3],
@@ -371,23 +444,19 @@ impl Job {
                 while record.add(&Call::Seat(SEAT)) {}
                 vec![record.file()]
             }
-            Job::Equipment { arms } => {
-                record.put(&Call::Weigh(WEIGHING));
-                for part in parts_at(arms) {
-                    record.put(&Call::Change(part));
-                }
-                vec![record.file()]
-            }
+            Job::Equipment { arms } => vec![equipped::<C>(arms)],
             Job::CheckChanges | Job::UndoAndChange | Job::RefusedChange => {
                 record.put(&Call::Weigh(WEIGHING));
                 record.put(&sheet(256));
                 record.change(&mut PARTS.iter().cycle(), 64);
                 vec![record.file()]
             }
+            Job::Indicator { entries } => vec![before_sent::<C>(entries)],
             Job::Fleet => fleet::<C>(),
         };
         Desk {
             records,
+            sent: indicated(),
             plate: vec![0; LONGEST_PLACARD],
             columns: [[0; MOST_ARMS]; 3],
         }
@@ -397,6 +466,7 @@ impl Job {
     fn run<C: Calls>(self, desk: &mut Desk) -> u64 {
         let Desk {
             records,
+            sent,
             plate,
             columns,
         } = desk;
@@ -414,6 +484,7 @@ impl Job {
                 C::call(record, black_box(&UNDO)) + C::call(record, black_box(&LAST_CALL))
             }
             Job::RefusedChange => C::call(black_box(&mut records[0]), black_box(&LAST_CALL)),
+            Job::Indicator { .. } => call_and_forget::<C>(black_box(&mut records[0]), sent),
             Job::Equipment { .. } => {
                 let [arms, weights, nonlifting] = black_box(columns);
                 let columns = Columns {
@@ -670,7 +741,7 @@ fn print_times() {
     println!("Times are medians, ratios those of the rounds.\n");
     print_lines();
     print_fleet();
-    println!("\ng. The library's placard by rows, at 64 entries:");
+    println!("\nh. The library's placard by rows, at 64 entries:");
     let rows = [1, 32, 64, 96, 128, 160, 192, 224, 256];
     print_straight("rows", "a row", &rows, |rows| Job::Placard {
         entries: 64,

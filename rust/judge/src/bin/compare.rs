@@ -12,7 +12,9 @@
 
 #![deny(unsafe_code)]
 
+use judge::classes::{messages, CLASSES};
 use judge::generate::{case, Case};
+use judge::paper::Call;
 use judge::run::WORK;
 use judge::run::{Answers, By, Direct, Fast, Guarded, Inventory, Lent, Paper, Plate, Trial};
 use library::Library;
@@ -378,6 +380,10 @@ impl Display for Report<'_> {
 
 // ---- All cases ----
 
+/// Where a file has its count of entries, and that of a full record.
+const COUNT: usize = 5;
+const MOST_ENTRIES: u8 = 64;
+
 /// What was compared.
 #[derive(Default)]
 struct Tally {
@@ -385,6 +391,14 @@ struct Tally {
     /// Files lent as they are.
     found: u64,
     calls: u64,
+    /// Weighings by an indicator, those that were accepted, and those of method 4 among
+    /// them.
+    indicated: [u64; 3],
+    /// Messages of each class in weighings that were accepted and in those that were
+    /// refused.
+    classes: [[u64; 2]; CLASSES.len()],
+    /// 13, 14 and 9 that were given to them on a full record.
+    full: [u64; 3],
     /// Placards given, those with a seat in force, and their rows.
     placards: u64,
     seats: u64,
@@ -396,7 +410,7 @@ struct Tally {
     arms: u64,
     noughts: u64,
     /// How often each number was given by calls, centres, placards and equipment.
-    numbers: [[u64; 4]; 13],
+    numbers: [[u64; 4]; 15],
 }
 
 impl Tally {
@@ -414,6 +428,7 @@ impl Tally {
         for number in answers.fresh.iter().chain(&answers.numbers) {
             self.numbers[*number as usize][0] += 1;
         }
+        self.add_indicated(trial, answers);
         self.numbers[answers.centre.err().unwrap_or(0) as usize][1] += 1;
         if let Some(plate) = plate {
             self.numbers[plate.answer.err().unwrap_or(0) as usize][2] += 1;
@@ -433,11 +448,50 @@ impl Tally {
     }
 }
 
+impl Tally {
+    fn add_indicated(&mut self, trial: &Trial, answers: &Answers) {
+        let numbers = answers.numbers.iter().zip(&answers.buffers);
+        for (call, (number, before)) in trial.calls.iter().zip(numbers) {
+            let Call::Indicate(x) = call else {
+                continue;
+            };
+            let accepted = *number == 0;
+            self.indicated[0] += 1;
+            self.indicated[1] += u64::from(accepted);
+            self.indicated[2] += u64::from(accepted && x.m == 4);
+            for (counts, (_, is_of)) in self.classes.iter_mut().zip(CLASSES) {
+                let of = messages(x).into_iter().filter(|message| is_of(message));
+                counts[usize::from(!accepted)] += of.count() as u64;
+            }
+            let is_full = before.get(COUNT) == Some(&MOST_ENTRIES);
+            for (count, due) in self.full.iter_mut().zip([13, 14, 9]) {
+                *count += u64::from(is_full && *number == due);
+            }
+        }
+    }
+
+    fn write_classes(&self, f: &mut Formatter) -> fmt::Result {
+        writeln!(
+            f,
+            "\nmessages in weighings                  accepted      refused"
+        )?;
+        for ((name, _), [accepted, refused]) in CLASSES.iter().zip(self.classes) {
+            writeln!(f, "{name:34} {accepted:12} {refused:12}")?;
+        }
+        let [unsteady, load, full] = self.full;
+        writeln!(f, "on a full record 13: {unsteady}, 14: {load}, 9: {full}")
+    }
+}
+
 impl Display for Tally {
     fn fmt(&self, f: &mut Formatter) -> fmt::Result {
         writeln!(f, "cases                   {:12}", self.cases)?;
         writeln!(f, "files lent as they are  {:12}", self.found)?;
         writeln!(f, "calls                   {:12}", self.calls)?;
+        let [indicated, accepted, turned] = self.indicated;
+        writeln!(f, "  by an indicator       {indicated:12}")?;
+        writeln!(f, "    accepted            {accepted:12}")?;
+        writeln!(f, "      by method 4       {turned:12}")?;
         writeln!(f, "placards                {:12}", self.placards)?;
         writeln!(f, "  with a seat           {:12}", self.seats)?;
         writeln!(f, "  with direct only      {:12}", self.direct_only)?;
@@ -456,7 +510,7 @@ impl Display for Tally {
                 "{number:6} {calls:12} {centres:12} {placards:12} {equipment:12}"
             )?;
         }
-        Ok(())
+        self.write_classes(f)
     }
 }
 

@@ -11,6 +11,7 @@
 //! | `Fresh N` | a case begins: a buffer of N bytes, all AA, and a fresh record at its front |
 //! | `Lent HEX` | these bytes at the front of the buffer, as they are: no call, and no answer |
 //! | `weighing`, `paired`, `sheet`, `change`, `seat`, `undo` | the call, with its numbers as in a logbook |
+//! | `Indicated M P RATED ZERO Q RATED ZERO P2 RATED ZERO Q2 RATED ZERO A B N` | a weighing by an indicator: each message in digits of sixteen, `-` where it has no bytes, and behind it the patterns of its cell's two floats, sixteen digits of sixteen each |
 //! | `Read HEX` | reading back these bytes; none where nothing stands behind `Read ` |
 //! | `Check` | whether a record stands |
 //! | `Centre` | the centre of gravity |
@@ -37,8 +38,10 @@
 //! cases over a usual length of text, the first that it has, and some whose equipment
 //! has as many arms as there can be; further ones are left out, and the kind's next
 //! case takes the place. Left out too is a case
-//! whose placard would take plain loops too long. A number of more than eighteen
-//! digits becomes eighteen nines, which is as far out of every range.
+//! whose placard would take plain loops too long. Behind them stand cases by hand, of
+//! single readings by an indicator. A number of more than eighteen
+//! digits becomes eighteen nines, which is as far out of every range. A NaN of a cell
+//! becomes the one that has no more than its quiet bit.
 //!
 //! Of every second case with files the last one is not read back but lent as it
 //! is, and calls are made on it: a file of version 1 stays one until a call
@@ -47,7 +50,8 @@
 #![forbid(unsafe_code)]
 
 use judge::generate::{case, Case};
-use judge::paper::{Call, Centre, Change, Counts, Paired, Seat, Sheet, Weighing};
+use judge::paper::{Call, Cell, Centre, Change, Counts, Indicated, Message};
+use judge::paper::{Paired, Seat, Sheet, Weighing};
 use judge::run::{later, Answers, Guarded, Inventory, Paper, Plate, Trial, BEHIND};
 use std::collections::BTreeMap;
 use std::path::Path;
@@ -73,7 +77,7 @@ const MOST_ARMS: usize = 63;
 
 /// Most bytes of the whole input, of a block of it, of a file that is read back,
 /// and of the buffers; and most elements of a column.
-const MOST_INPUT: usize = 1_000_000;
+const MOST_INPUT: usize = 16 * BLOCK;
 const BLOCK: usize = 65_536;
 const MOST_FILE: usize = 4_096;
 const MOST_ROOM: usize = 4_096;
@@ -122,6 +126,7 @@ fn cut_call(call: Call) -> Call {
             b: cut(x.b),
             n: cut(x.n),
         }),
+        Call::Indicate(x) => Call::Indicate(cut_indicated(x)),
         Call::Install(s) => Call::Install(cut_sheet(s)),
         Call::Change(change) => Call::Change(Change {
             c: cut_signed(change.c),
@@ -133,6 +138,39 @@ fn cut_call(call: Call) -> Call {
             higher: cut_signed(seat.higher),
         }),
         Call::Undo | Call::Read(_) => call,
+    }
+}
+
+fn cut_indicated(x: Indicated) -> Indicated {
+    let cut_message = |message: Message| Message {
+        cell: Cell {
+            rated: plain_nan(message.cell.rated),
+            zero: plain_nan(message.cell.zero),
+        },
+        ..message
+    };
+    Indicated {
+        m: cut(x.m),
+        p: cut_message(x.p),
+        q: cut_message(x.q),
+        p2: cut_message(x.p2),
+        q2: cut_message(x.q2),
+        a: cut_signed(x.a),
+        b: cut(x.b),
+        n: cut(x.n),
+    }
+}
+
+/// The pattern of a float, where it is a NaN that of a plain one: a program need not be
+/// able to lend another.
+fn plain_nan(pattern: u64) -> u64 {
+    const SIGN: u64 = 1 << 63;
+    const INFINITE: u64 = 0x7ff << 52;
+    const NAN: u64 = 0x7ff8 << 48;
+    if pattern & !SIGN > INFINITE {
+        NAN
+    } else {
+        pattern
     }
 }
 
@@ -165,6 +203,23 @@ fn sheet_line(s: &Sheet) -> String {
     format!("sheet {limits} {front} {rear} {water}")
 }
 
+fn message_words(message: &Message) -> String {
+    let bytes = match message.bytes.as_slice() {
+        [] => "-".to_string(),
+        bytes => hex(bytes),
+    };
+    let Cell { rated, zero } = message.cell;
+    format!("{bytes} {rated:016x} {zero:016x}")
+}
+
+fn indicated_line(x: &Indicated) -> String {
+    let [p, q, p2, q2] = [&x.p, &x.q, &x.p2, &x.q2].map(message_words);
+    format!(
+        "Indicated {} {p} {q} {p2} {q2} {} {} {}",
+        x.m, x.a, x.b, x.n
+    )
+}
+
 fn call_line(call: &Call) -> String {
     match call {
         Call::Weigh(w) => {
@@ -175,6 +230,7 @@ fn call_line(call: &Call) -> String {
             let first = format!("{} {} {}", x.m, x.p, x.q);
             format!("paired {first} {} {} {} {} {}", x.p2, x.q2, x.a, x.b, x.n)
         }
+        Call::Indicate(x) => indicated_line(x),
         Call::Install(s) => sheet_line(s),
         Call::Change(Change { c, arm, flag }) => format!("change {c} {arm} {flag}"),
         Call::Seat(Seat { lower, higher }) => format!("seat {lower} {higher}"),
@@ -288,6 +344,12 @@ impl Stored {
     fn of(index: u64) -> Option<Stored> {
         let case = case(SEED, index);
         let lent = lent(&case, index);
+        Stored::of_case(case, lent)
+    }
+
+    /// A case, its last file lent where there is one; none where plain loops would take
+    /// too long.
+    fn of_case(case: Case, lent: Option<Vec<u8>>) -> Option<Stored> {
         let calls: Vec<Call> = match &lent {
             Some(_) => later(&case).to_vec(),
             None => case.calls.into_iter().map(cut_call).collect(),
@@ -377,9 +439,85 @@ fn choose() -> Vec<Stored> {
         long: LONG_CASES,
         full: FULL_CASES,
     });
-    (0..CASES * KINDS)
-        .map(|turn| kinds[turn % KINDS].next())
-        .collect()
+    let generated = (0..CASES * KINDS).map(|turn| kinds[turn % KINDS].next());
+    let by_hand = by_hand().into_iter();
+    let by_hand = by_hand.filter_map(|case| Stored::of_case(case, None));
+    generated.chain(by_hand).collect()
+}
+
+// ---- By hand ----
+
+/// Readings with the zero of their cell, in kilograms: halfway between two grams or nearly
+/// so, at a bound, and below their zero by less than a gram.
+const READINGS: [[f64; 2]; 22] = [
+    [0.0025, 0.0],
+    [0.0005, 0.0],
+    [0.0055, 0.0],
+    [0.0625, 0.0],
+    [0.1875, 0.0],
+    [1999.9375, 0.0],
+    [2_000.0, 0.0],
+    [2_000.0_f64.next_up(), 0.0],
+    [2_000.0, 2_000.0],
+    [2_000.0, 2_000.0_f64.next_up()],
+    [1.0001, 1.0002],
+    [0.0004, 0.0005],
+    [0.0005, 0.0004],
+    [0.0625, 0.1875],
+    [-0.0, -0.0],
+    [f64::MIN_POSITIVE, 0.0],
+    [-f64::MIN_POSITIVE, 0.0],
+    [1.0, -f64::MIN_POSITIVE],
+    [f64::INFINITY, 0.0],
+    [1.0, f64::NEG_INFINITY],
+    [f64::NAN, 1.0],
+    [1.0, f64::NAN],
+];
+
+/// A weighing by an indicator in which a message is q; p leaves it as much room as a
+/// method can.
+fn weighing_with(m: u64, q: Message) -> Call {
+    let sent = |reading: f64, zero: f64| on_cell(reading, 2_500.0, zero);
+    Call::Indicate(Indicated {
+        m,
+        p: match m {
+            4 => sent(2_000.0, 0.0),
+            _ => sent(1.0, 1.0),
+        },
+        q,
+        p2: sent(2.0, 1.0),
+        q2: sent(0.0, 0.0),
+        a: 0,
+        b: 1,
+        n: 0,
+    })
+}
+
+fn on_cell(reading: f64, rated: f64, zero: f64) -> Message {
+    let [rated, zero] = [rated, zero].map(f64::to_bits);
+    Message::stable(reading.to_bits(), Cell { rated, zero })
+}
+
+/// Each reading in two slings, and turned round in method 4; on a cell that is rated for
+/// just that, and for the float before.
+fn by_hand() -> Vec<Case> {
+    let calls = READINGS.map(|[reading, zero]| {
+        [
+            weighing_with(3, on_cell(reading, 2_500.0, zero)),
+            weighing_with(4, on_cell(zero, 2_500.0, reading)),
+            weighing_with(3, on_cell(reading, reading, zero)),
+            weighing_with(3, on_cell(reading, reading.next_down(), zero)),
+        ]
+    });
+    let case = |calls: &[Call]| Case {
+        kind: "by hand",
+        room: 300,
+        calls: calls.to_vec(),
+        plate: 0,
+        fill: FILL,
+        columns: [0; 3],
+    };
+    calls.as_flattened().chunks(8).map(case).collect()
 }
 
 // ---- Telling ----
@@ -396,7 +534,7 @@ const OLD: u8 = 1;
 struct Summary {
     kinds: BTreeMap<&'static str, usize>,
     /// Numbers of calls, checks, centres, placards and equipment.
-    numbers: [[usize; 5]; 13],
+    numbers: [[usize; 5]; 15],
     /// Equipment given by how many arms it has: none, one, up to 8, more, 63.
     arms: [usize; 5],
     /// Arms with a net of nought.
@@ -406,6 +544,10 @@ struct Summary {
     /// Paired weighings accepted and refused, and seats.
     pairs: [usize; 2],
     seats: [usize; 2],
+    /// Cases with weighings by an indicator, and such weighings by their number: accepted,
+    /// 13, 14 or another.
+    indicated_cases: usize,
+    indicated: [usize; 4],
     /// Full records read back.
     full_files: usize,
     /// Records of version 1 read back.
@@ -438,21 +580,31 @@ impl Summary {
             self.arms[size] += 1;
         }
         self.many_calls += usize::from(stored.calls.len() >= 60);
-        for (call, number) in stored.calls.iter().zip(&answers.numbers) {
+        self.add_calls(stored);
+        let held = answers.check == 0;
+        if let Some(file) = stored.lent.as_ref().filter(|_| held) {
+            self.lent += 1;
+            self.old_lent += usize::from(file[VERSION] == OLD);
+        }
+    }
+
+    fn add_calls(&mut self, stored: &Stored) {
+        let is_indicated = |call: &Call| matches!(call, Call::Indicate(_));
+        self.indicated_cases += usize::from(stored.calls.iter().any(is_indicated));
+        for (call, number) in stored.calls.iter().zip(&stored.answers.numbers) {
             match call {
                 Call::Pair(_) => self.pairs[usize::from(*number != 0)] += 1,
                 Call::Seat(_) => self.seats[usize::from(*number != 0)] += 1,
+                Call::Indicate(_) => {
+                    let which = [0, 13, 14].iter().position(|n| n == number);
+                    self.indicated[which.unwrap_or(3)] += 1;
+                }
                 Call::Read(file) if *number == 0 => {
                     self.full_files += usize::from(file[COUNT] == FULL);
                     self.old_files += usize::from(file[VERSION] == OLD);
                 }
                 _ => {}
             }
-        }
-        let held = answers.check == 0;
-        if let Some(file) = stored.lent.as_ref().filter(|_| held) {
-            self.lent += 1;
-            self.old_lent += usize::from(file[VERSION] == OLD);
         }
     }
 
@@ -465,6 +617,12 @@ impl Summary {
         println!("paired weighings: {accepted} accepted, {refused} refused");
         let [accepted, refused] = self.seats;
         println!("seats: {accepted} accepted, {refused} refused");
+        let [accepted, unsteady, load, others] = self.indicated;
+        let cases = self.indicated_cases;
+        println!("cases with weighings by an indicator: {cases}");
+        println!(
+            "  {accepted} accepted, refused {unsteady} with 13, {load} with 14, {others} otherwise"
+        );
         println!("full records read back: {}", self.full_files);
         println!("records of version 1 read back: {}", self.old_files);
         let (lent, old) = (self.lent, self.old_lent);
@@ -595,6 +753,33 @@ mod tests {
         let sum = sum(&plate.record);
         let line = format!("0 0 0 {sum} 0 3 -2 -1 0 0 0 8 0\n");
         assert_eq!(output(&answers, &inventory, &plate), line);
+    }
+
+    /// Messages of several lengths, two of their cells with a NaN.
+    #[test]
+    fn line_of_an_indicator() {
+        let [rated, zero] = [1.0_f64, -0.0].map(f64::to_bits);
+        let message = |bytes: &[u8]| Message {
+            bytes: bytes.to_vec(),
+            cell: Cell { rated, zero },
+        };
+        let mut x = Indicated {
+            m: u64::MAX,
+            p: message(&[]),
+            q: message(&[1, 0x0a]),
+            p2: Message::stable(f64::INFINITY.to_bits(), Cell { rated, zero }),
+            q2: message(&[0xff; 10]),
+            a: -5,
+            b: 6,
+            n: 7,
+        };
+        x.p.cell.rated = 0xfff0_0000_0000_0001;
+        x.q2.cell.zero = 0x7fff_ffff_ffff_ffff;
+        let lines = "Indicated 999999999999999999 - 7ff8000000000000 8000000000000000 \
+                     010a 3ff0000000000000 8000000000000000 \
+                     017ff0000000000000 3ff0000000000000 8000000000000000 \
+                     ffffffffffffffffffff 3ff0000000000000 7ff8000000000000 -5 6 7";
+        assert_eq!(call_line(&cut_call(Call::Indicate(x))), lines);
     }
 
     /// One part ahead of the datum and two behind, one of them taken out again.

@@ -1,13 +1,14 @@
 //! Entries with a field at the edge of its range, one beyond or far out.
 
 use super::glider::{lighten, Glider};
+use super::indicator::edge_indicated;
 use super::random::Random;
 use super::{ARM, HALVES, LOAD, TOP, WEIGHT};
 use crate::paper::{Call, Change, Journal, Paired, Seat, Sheet, Weighing};
 
 /// A value on an edge of a range, one beyond, or far out. `good` plus 2^32 looks
 /// like `good` where it is cut to four bytes.
-fn edge(random: &mut Random, low: u64, high: u64, good: u64) -> u64 {
+pub(super) fn edge(random: &mut Random, low: u64, high: u64, good: u64) -> u64 {
     let near = [
         low.wrapping_sub(1),
         low,
@@ -35,7 +36,7 @@ fn edge(random: &mut Random, low: u64, high: u64, good: u64) -> u64 {
 }
 
 /// The same from −size to size.
-fn signed_edge(random: &mut Random, size: i64, good: i64) -> i64 {
+pub(super) fn signed_edge(random: &mut Random, size: i64, good: i64) -> i64 {
     let near = [-size - 1, -size, 1 - size, 0, size - 1, size, size + 1];
     let far = [
         i64::MIN,
@@ -339,11 +340,12 @@ fn second_edge(random: &mut Random, call: Call) -> Call {
 
 /// A call that is good but for one field at an edge, seldom for two.
 pub(super) fn edge_call(random: &mut Random, glider: &Glider, journal: &Journal) -> Call {
-    let call = match random.below(6) {
+    let call = match random.below(7) {
         0 => edge_weigh_call(random, glider),
         1 => edge_pair_call(random, glider),
         2 | 3 => edge_install_call(random, glider),
         4 => edge_seat_call(random, glider),
+        5 => Call::Indicate(edge_indicated(random, glider)),
         _ => edge_change_call(random, glider, journal),
     };
     if random.one_in(5) {

@@ -3,7 +3,7 @@
 // Each test file is a program of its own and uses a part of these.
 #![allow(dead_code)]
 
-use nodhulika::{Change, Paired, Record, Seat, Sheet, Station, Weighing};
+use nodhulika::{Cell, Change, Indicated, Message, Paired, Record, Seat, Sheet, Station, Weighing};
 
 /// Bytes of the header and of each kind of entry.
 pub const HEADER: usize = 6;
@@ -37,6 +37,34 @@ pub const G_PAIRED: Paired = Paired {
     q: 0,
     p2: 288_001,
     q2: 0,
+    a: 63_334,
+    b: 500_000,
+    n: 140_000,
+};
+
+/// The message of a stable reading.
+pub const fn stable(kilograms: f64) -> [u8; 9] {
+    let [a, b, c, d, e, f, g, h] = kilograms.to_be_bytes();
+    [1, a, b, c, d, e, f, g, h]
+}
+
+/// The cells that case G is weighed on by an indicator.
+pub const G_WHEEL: Cell = Cell {
+    rated: 500.0,
+    zero: 1.25,
+};
+pub const G_TAIL: Cell = Cell {
+    rated: 50.0,
+    zero: 0.5,
+};
+
+/// The same pair as an indicator sends it.
+pub const G_INDICATED: Indicated = Indicated {
+    m: Weighing::WHEEL_AND_TAIL,
+    p: Message::new(&stable(289.25), G_WHEEL),
+    q: Message::new(&stable(0.5), G_TAIL),
+    p2: Message::new(&stable(289.251), G_WHEEL),
+    q2: Message::new(&stable(0.5), G_TAIL),
     a: 63_334,
     b: 500_000,
     n: 140_000,

@@ -1,9 +1,10 @@
 //! The proved library by its safe calls on lent buffers, for the programs that
 //! compare and time it.
 
-use judge::paper::{Call, Centre, Change, Columns, Counts, Paired, Seat, Sheet, Weighing};
+use judge::paper::{Call, Centre, Change, Columns, Counts, Indicated, Message};
+use judge::paper::{Paired, Seat, Sheet, Weighing};
 use judge::run::Calls;
-use nodhulika::{lent, Refusal, Station};
+use nodhulika::{lent, Cell, Refusal, Station};
 
 /// The proved library.
 pub struct Library;
@@ -21,6 +22,7 @@ impl Calls for Library {
         number(match call {
             Call::Weigh(w) => lent::weigh(buffer, &weighing(w)),
             Call::Pair(x) => lent::weigh_paired(buffer, &paired(x)),
+            Call::Indicate(x) => lent::weigh_indicated(buffer, &indicated(x)),
             Call::Install(s) => lent::sheet(buffer, &sheet(s)),
             Call::Change(c) => lent::change(buffer, &change(c)),
             Call::Seat(s) => lent::seat(buffer, &seat(s)),
@@ -73,6 +75,27 @@ fn paired(x: &Paired) -> nodhulika::Paired {
         q: x.q,
         p2: x.p2,
         q2: x.q2,
+        a: x.a,
+        b: x.b,
+        n: x.n,
+    }
+}
+
+fn message(message: &Message) -> nodhulika::Message<'_> {
+    let cell = Cell {
+        rated: f64::from_bits(message.cell.rated),
+        zero: f64::from_bits(message.cell.zero),
+    };
+    nodhulika::Message::new(&message.bytes, cell)
+}
+
+fn indicated(x: &Indicated) -> nodhulika::Indicated<'_> {
+    nodhulika::Indicated {
+        m: x.m,
+        p: message(&x.p),
+        q: message(&x.q),
+        p2: message(&x.p2),
+        q2: message(&x.q2),
         a: x.a,
         b: x.b,
         n: x.n,

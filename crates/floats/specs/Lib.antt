@@ -1,0 +1,2 @@
+-- What the grams of a float are.
+pub mod Grams
