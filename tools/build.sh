@@ -3,7 +3,7 @@
 #   tools/build.sh programs   bin/logbook, bin/placard, bin/show, bin/equipment
 #   tools/build.sh counted    bin/counted
 #   tools/build.sh library    staticlib/libnodhulika.a, by the compiler that is written in Rattle: it calls nothing
-#   tools/build.sh library-llvm    the same by LLVM: it calls memset and memmove
+#   tools/build.sh library-llvm    the same by LLVM: it calls memset and memcpy
 set -eu
 cd "$(dirname "$0")/.."
 

@@ -113,3 +113,12 @@ room_least k n x m h =
       forward = record { up = omega (arith, h.forward.up); down = omega (arith, h.forward.down) };
       safe = record { up = omega (arith, h.safe.up); down = omega (arith, h.safe.down) };
     }
+
+pub share_room : (x : Laden) → Share x → Room 256 x
+share_room x h =
+    record {
+      weight = omega (arith, h.weight);
+      moment = record { up = omega (arith, h.moment.up); down = omega (arith, h.moment.down) };
+      forward = record { up = omega (arith, h.forward.up); down = omega (arith, h.forward.down) };
+      safe = record { up = omega (arith, h.safe.up); down = omega (arith, h.safe.down) };
+    }

@@ -1,13 +1,13 @@
 #![tactic(auto)]
 
 // What a change makes of a balance, or why it is refused.
-ghost use Rattle.std.specs.Prelude.{◌≡◌, cond, ℕ, ◌+◌, eqb, IfOk, pos, negsuc, ◌≤ℤ◌};
+ghost use Rattle.std.specs.Prelude.{◌≡◌, cond, ℕ, ◌+◌, ◌^◌, ◌<◌, ◌≤◌, eqb, IfOk, pos, negsuc, ◌≤ℤ◌};
 ghost use Rattle.std.proofs.Math.Option.{some};
 ghost use Rattle.paper.specs.Record as paper;
 ghost use Rattle.paper.specs.Units.{half_grams};
 ghost use Rattle.paper.specs.Numbers.{number_in};
 ghost use Rattle.paper.specs.Refusals.{is_change, change_faults, first_number};
-ghost use Rattle.balance.specs.Balance.{plain, Bounded};
+ghost use Rattle.balance.specs.Balance.{an_entry, plain, Ranged, Bounded};
 
 use balance::Balance;
 use laws::Sides;
@@ -35,11 +35,12 @@ fn counted(flag: u64, gain: i64) -> i64
     if flag == 1 { gain } else { 0 }
 }
 
-// The balance behind an accepted change, or why it is refused behind 9 and 7.
-pub fn changed(b: Balance, x: Change) -> Result<Balance, Refusal>
-    requires { Bounded 1024 b }
+// G and n behind an accepted change, in half grams, or why it is refused behind 9 and 7.
+#[inline(always)]
+fn weights(b: Balance, x: Change) -> Result<(u64, u64), Refusal>
+    requires { Ranged b }
     ensures number { number_in result ≡ first_number (change_faults (some (plain b)) x) }
-    ensures accepted { IfOk result (λ r. (plain r ≡ paper.changed (plain b) x) × ((k : ℕ) → Bounded k b → Bounded (k + 1) r)) }
+    ensures accepted { IfOk result (λ w. (pos w.0 ≡ (paper.changed (plain b) x).total) × (pos w.1 ≡ (paper.changed (plain b) x).non_lifting)) }
 {
     if !arm::holds(x.arm) {
         return Err(Refusal::Distance);
@@ -56,9 +57,31 @@ pub fn changed(b: Balance, x: Change) -> Result<Balance, Refusal>
     if part < 0 || total < part {
         return Err(Refusal::NonLifting);
     }
+    Ok((total as u64, part as u64))
+}
+
+// Whether a change is accepted, whatever the moment is, or why it is refused behind 9 and 7.
+pub fn check(b: Balance, x: Change) -> Result<(), Refusal>
+    requires { Ranged b }
+    ensures { number_in result ≡ first_number (change_faults (some (plain b)) x) }
+{
+    weights(b, x)?;
+    Ok(())
+}
+
+// The balance behind an accepted change, or why it is refused behind 9 and 7.
+pub fn changed(b: Balance, x: Change) -> Result<Balance, Refusal>
+    requires { Ranged b × (b.moment.up < 2 ^ 59) × (b.moment.down < 2 ^ 59) }
+    ensures number { number_in result ≡ first_number (change_faults (some (plain b)) x) }
+    ensures accepted { IfOk result (λ r. (plain r ≡ paper.changed (plain b) x) × ((k : ℕ) → Bounded k b → Bounded (k + 1) r)) }
+    ensures bounds { IfOk result (λ r. Ranged r × (r.moment.up ≤ b.moment.up + an_entry) × (r.moment.down ≤ b.moment.down + an_entry)) }
+{
+    let (total, nonlifting) = weights(b, x)?;
+    let gain = half_grams(x.c);
+    let more = Sides::from(gain * x.arm);
     Ok(Balance {
-        total: total as u64,
-        moment: b.moment + Sides::from(gain * x.arm),
-        nonlifting: part as u64,
+        total,
+        moment: b.moment + more,
+        nonlifting,
     })
 }

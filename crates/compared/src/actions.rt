@@ -1,14 +1,15 @@
 // One line of the cases: an action on the record that is lent in a part of a buffer, and its answer.
 use crate::indicated::indicated;
 use language::Line;
-use lines::{lent, sum};
+use lines::{lent, split, sum};
 use nodhulika::{
     ANSWER, nodhulika_centre, nodhulika_change, nodhulika_check, nodhulika_equipment,
     nodhulika_fresh, nodhulika_placard, nodhulika_read, nodhulika_seat, nodhulika_sheet,
     nodhulika_undo, nodhulika_weigh, nodhulika_weigh_paired,
 };
+use numerals::number_of;
 use paper::Entry;
-use script::texts::{SPELLED, digits, parted, spelled};
+use script::texts::{SPELLED, digits, parted, spelled, text};
 use std::io;
 
 // The longest buffer of a record.
@@ -130,9 +131,19 @@ fn read(digits: &[u8], record: &mut [u8]) -> u64 {
     nodhulika_read(record, spelled(digits, &mut file))
 }
 
+// What stands behind the first n bytes of a line.
+fn behind(line: &[u8], n: usize) -> &[u8] {
+    split(line, n).1
+}
+
+// The number that stands there; 0 for one below it.
+fn number(line: &[u8], n: usize) -> usize {
+    number_of(behind(line, n)).max(0).cast_unsigned() as usize
+}
+
 // A call, as a line of a logbook.
-fn call(rt: &impl Print, line: &str, record: &mut [u8]) -> io::Result<()> {
-    match language::read_line(line.as_bytes()) {
+fn call(rt: &impl Print, line: &[u8], record: &mut [u8]) -> io::Result<()> {
+    match language::read_line(line) {
         Line::Entry(e) => answer(rt, enter(record, e)),
         Line::Undo => answer(rt, nodhulika_undo(record)),
         Line::Passed => print!(rt; " passed"),
@@ -163,25 +174,26 @@ impl Case {
         print!(rt; "{n}")
     }
 
-    // The action of a line by its first word. `Lent HEX` puts these bytes at the front of the buffer, as they are.
-    pub fn act(&mut self, rt: &impl Print, line: &str) -> io::Result<()> {
+    // The action of a line by its first letters, and by its first word where that is `Equipment` or `Indicated`. `Lent HEX`
+    // puts these bytes at the front of the buffer, as they are. A line of less than two bytes is passed over.
+    pub fn act(&mut self, rt: &impl Print, line: &[u8]) -> io::Result<()> {
         let record = lent(&mut self.buffer, self.room);
-        let (word, rest) = parted(line, ' ');
-        let taken = rest.as_bytes();
-        match word {
-            "" => Ok(()),
-            "Fresh" => self.fresh(rt, digits(taken) as usize),
-            "Read" => answer(rt, read(taken, record)),
-            "Lent" => {
-                spelled(taken, record);
+        match line {
+            [] | [_] => Ok(()),
+            [b'F', ..] => self.fresh(rt, number(line, 6)),
+            [b'R', ..] => answer(rt, read(behind(line, 5), record)),
+            [b'L', ..] => {
+                spelled(behind(line, 5), record);
                 Ok(())
             }
-            "Placard" => placard(rt, digits(taken) as usize, record),
-            "Check" => check(rt, record),
-            "Centre" => centre(rt, record),
-            "Equipment" => equipment(rt, rest, record),
-            "Indicated" => answer(rt, indicated(rest, record)),
-            _ => call(rt, line, record),
+            [b'P', ..] => placard(rt, number(line, 8), record),
+            [b'C', b'h', ..] => check(rt, record),
+            [b'C', ..] => centre(rt, record),
+            _ => match parted(text(line).unwrap_or_default(), ' ') {
+                ("Equipment", sizes) => equipment(rt, sizes, record),
+                ("Indicated", rest) => answer(rt, indicated(rest, record)),
+                _ => call(rt, line, record),
+            },
         }
     }
 }

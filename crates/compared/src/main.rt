@@ -7,7 +7,6 @@ mod indicated;
 
 use actions::Case;
 use lines::each_block;
-use script::texts::text;
 use std::io;
 
 // The cases come in blocks of this many bytes, each of whole cases.
@@ -18,8 +17,8 @@ const BLOCKS: usize = 32;
 // The lines in turn, over one buffer of which each case lends a part.
 fn each(rt: &impl Print, block: &[u8]) -> io::Result<()> {
     let mut case = Case::new();
-    for line in text(block)?.lines() {
-        case.act(rt, line)?;
+    for line in block.split_inclusive(|x| *x == b'\n') {
+        case.act(rt, line.strip_suffix(b"\n").unwrap_or(line))?;
     }
     Ok(())
 }

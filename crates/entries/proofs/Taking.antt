@@ -2,6 +2,7 @@
 use Rattle.std.proofs.Common.{◌≡◌, ℕ, ◌+◌, ◌-◌, ◌≤◌, ◌<◌, List, [], ◌∷◌, length, get_or, take, drop, refl, sym, ap, ◌∙◌, subst, arith, le-leb, drop-cons}
 use Rattle.std.specs.Prelude.{Option as RustOption, Result, Ok, Err, Some, None}
 use Rattle.std.specs.Result.{result_ok}
+use Rattle.std.specs.Borrow.{Bor}
 use Rattle.std.proofs.lemmas.List.{take_rest, take-take, drop-take}
 use mathlib.Core.Option.{Option, none, some, bind}
 use borrow.Author.Tests.{lt-leb, ne_eqb}
@@ -57,15 +58,15 @@ module _ (s : List ℕ) (h : 1 ≤ length s) (r : Result Kind Unknown) (d : Deco
       by (Ok k) f g = cc
       by (Err u) f g = rw parted at (no_kind (get_or s 0 0) (take (length s - 1) (drop 1 s)) f.1)
 
-  pub kind_got : (k : Kind) → Some k ≡ result_ok r → (x : RustOption Entry) (ys : List ℕ) → Takes (take_kind (code_of k) (take (length s - 1) (drop 1 s))) x ys → Takes (take_entry s) x ys
-  kind_got k e x ys t = by r d e
+  pub kind_got : (k : Kind) → Some k ≡ result_ok r → (b : Bor (List ℕ)) (x : RustOption Entry) (c : Bor (List ℕ)) → Takes (take_kind (code_of k) (take (length s - 1) (drop 1 s))) b x c → Takes (take_entry s) b x c
+  kind_got k e b x c t = by r d e
     where
-      by : (q : Result Kind Unknown) → Decodes (get_or s 0 0) q → Some k ≡ result_ok q → Takes (take_entry s) x ys
+      by : (q : Result Kind Unknown) → Decodes (get_or s 0 0) q → Some k ≡ result_ok q → Takes (take_entry s) b x c
       by (Ok j) f g =
           let same : j ≡ k = cc in
           let code : code_of k ≡ get_or s 0 0 = ap code_of (sym same) ∙ f in
           let whole : code_of k ∷ take (length s - 1) (drop 1 s) ≡ s = ap (λ (n : ℕ). n ∷ take (length s - 1) (drop 1 s)) code ∙ parted in
-          subst (λ (o : Option (Entry × List ℕ)). Takes o x ys) (kind_taken k (take (length s - 1) (drop 1 s)) ∙ ap take_entry whole) t
+          subst (λ (o : Option (Entry × List ℕ)). Takes o b x c) (kind_taken k (take (length s - 1) (drop 1 s)) ∙ ap take_entry whole) t
       by (Err u) f g = cc
 
 -- ---- the fields of a kind that takes n bytes behind its own

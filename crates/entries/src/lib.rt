@@ -48,30 +48,30 @@ pub fn length_of(e: Entry) -> usize
     }
 }
 
-// The fields of a kind of entry, taken off the front of some bytes; none where there are too few.
+// The fields of a kind of entry, taken off the front of what stands behind the kind: `s` is then what is left. None where there
+// are too few, and then `s` stays.
 #[inline(always)]
-fn take_stored<T: Stored>(s: &mut &[u8]) -> Option<Entry>
-    ensures { Takes (take_kind (code_of T.KIND) s.old.now) result s.new.now }
+fn take_stored<'a, T: Stored>(behind: &'a [u8], s: &mut &'a [u8]) -> Option<Entry>
+    ensures { Takes (take_kind (code_of T.KIND) behind.now) s.old result s.new }
 {
-    let (fields, rest) = s.split_at_checked(T::LENGTH)?;
+    let (fields, rest) = behind.split_at_checked(T::LENGTH)?;
     *s = rest;
     Some(entry_from::<T>(fields))
 }
 
-// An entry, taken off the front of some bytes; none where they begin with no entry.
+// An entry, taken off the front of some bytes; none where they begin with no entry, and then they stay.
 #[inline(always)]
 pub fn take_entry(s: &mut &[u8]) -> Option<Entry>
-    ensures { Takes (take_entry s.old.now) result s.new.now }
+    ensures { Takes (take_entry s.old.now) s.old result s.new }
 {
     let [code, fields @ ..] = *s else {
         return None;
     };
-    *s = fields;
     match Kind::try_from(*code).ok()? {
-        Kind::Weighing => take_stored::<Weighing>(s),
-        Kind::Sheet => take_stored::<Sheet>(s),
-        Kind::Change => take_stored::<Change>(s),
-        Kind::Paired => take_stored::<Paired>(s),
-        Kind::Seat => take_stored::<Seat>(s),
+        Kind::Weighing => take_stored::<Weighing>(fields, s),
+        Kind::Sheet => take_stored::<Sheet>(fields, s),
+        Kind::Change => take_stored::<Change>(fields, s),
+        Kind::Paired => take_stored::<Paired>(fields, s),
+        Kind::Seat => take_stored::<Seat>(fields, s),
     }
 }

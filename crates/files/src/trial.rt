@@ -20,9 +20,9 @@ fn compared(rt: &impl Print, log: &Record, s: &[u8]) -> io::Result<()> {
 }
 
 // The bytes that digits of sixteen spell, read into a fresh record, and whether that then has the file that it should.
-pub fn tried(rt: &impl Print, digits: &str) -> io::Result<()> {
+pub fn tried(rt: &impl Print, digits: &[u8]) -> io::Result<()> {
     let mut room = [0u8; SPELLED];
-    let s = spelled(digits.as_bytes(), &mut room);
+    let s = spelled(digits, &mut room);
     let mut log = Record::fresh();
     let answer = file::read(&mut log, s);
     if let Some(version) = s.get_mut(Header::VERSION) {
@@ -49,7 +49,7 @@ pub fn kept(rt: &impl Print, last: Result<(), Refusal>, log: &Record) -> io::Res
 }
 
 // The bytes that digits of sixteen spell, read into a record.
-pub fn read(log: &mut Record, digits: &str) -> Result<(), Refusal> {
+pub fn read(log: &mut Record, digits: &[u8]) -> Result<(), Refusal> {
     let mut room = [0u8; SPELLED];
-    file::read(log, spelled(digits.as_bytes(), &mut room))
+    file::read(log, spelled(digits, &mut room))
 }

@@ -1,11 +1,12 @@
 // A record's file, written.
-use lines::{BEHIND, Centre, lent, split, sum, unwritten, written};
+use lines::{BEHIND, Centre, first, lent, sum, unwritten, written};
 use paper::number;
 use record::Record;
+use script::texts::between;
 use std::io;
 
 // The most bytes that are lent.
-const ROOM: usize = 4080;
+const ROOM: usize = 4096;
 
 // The centre of gravity, and the file's number and length. The answer is the file.
 pub fn counted<'a>(rt: &impl Print, log: &Record, out: &'a mut [u8]) -> io::Result<&'a [u8]> {
@@ -29,12 +30,13 @@ pub fn shown(rt: &impl Print, log: &Record) -> io::Result<()> {
     Ok(())
 }
 
-// Writing into n bytes of AA: number and length, the sum of the bytes, and how many behind them stayed.
+// Writing into n bytes of AA: number and length, the sum of the bytes, and how many behind them stayed. Where so many are not
+// there to be looked at, every AA counts.
 pub fn into(rt: &impl Print, log: &Record, n: usize) -> io::Result<()> {
-    let mut room = [0xAAu8; ROOM + BEHIND];
-    let looked_at = lent(&mut room, n.saturating_add(BEHIND));
-    let answer = file::write(log, lent(looked_at, n));
-    let (s, behind) = split(looked_at, answer.unwrap_or_default());
+    let mut room = [0xAAu8; ROOM];
+    let answer = file::write(log, lent(&mut room, n));
+    let s = first(&room, answer.unwrap_or_default());
+    let behind = between(&room, s.len(), n.saturating_add(BEHIND));
     print!(rt;
         " {} {} {} {}",
         number(&answer),

@@ -47,10 +47,14 @@ short s h =
       | no k ↦ too_few s (omega arith)
     ]
 
+pub all_of_it : (s : List ℕ) → length s ≤ 4 + number_of (take 4 s) → s ≡ file_in s
+unfolding file_in
+all_of_it s h = sym (take_all (4 + number_of (take 4 s)) s h)
+
 pub no_front : (s : List ℕ) → are_bytes s ≡ true → length s < 4 + number_of (take 4 s) → held_in s ≡ none
 unfolding held_in file_in
 no_front s b h =
-    ap file_of (take_all (4 + number_of (take 4 s)) s (omega arith)) ∙ bad_header s b (short s h)
+    ap file_of (sym (all_of_it s (omega arith))) ∙ bad_header s b (short s h)
 
 -- as the code has it
 pub front_got : (s : List ℕ) (n : ℕ) (r : RustOption (Bor (List ℕ))) → are_bytes s ≡ true → n ≡ number_of (take 4 s) → IsGetRangeResult s 0 (n + 4) r → FrontOf s r

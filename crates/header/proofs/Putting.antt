@@ -27,3 +27,7 @@ module _ (s : List ℕ) (n count : ℕ) (h : 6 ≤ length s) where
       ap (λ (t : List ℕ). written t 5 (bytes_of 1 count)) versioned
       ∙ written_follows s (bytes_of 4 n ++ version ∷ []) (bytes_of 1 count) 5 five (omega arith)
       ∙ ap (written s 0) (append_assoc (bytes_of 4 n) (version ∷ []) (bytes_of 1 count))
+
+-- it leaves the buffer's length as it is
+pub header_length : (s : List ℕ) (n count : ℕ) → 6 ≤ length s → length (written s 0 (header_of n count)) ≡ length s
+header_length s n count h = length-written s 0 (header_of n count) (omega (arith, length_header n count))

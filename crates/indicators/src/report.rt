@@ -27,8 +27,13 @@ fn last(rt: &impl Print, log: &Record) -> io::Result<()> {
 }
 
 // A case, whose head is its label.
-pub fn tried(rt: &impl Print, case: &Case) -> io::Result<()> {
-    print!(rt; "{}: {}; ", case.head, number(&case.last))?;
+pub fn tried(rt: &impl Print, mut case: Case) -> io::Result<()> {
+    if case.is_comment() {
+        return Ok(());
+    }
+    let answer = case.play();
+    rt.write_all(case.head())?;
+    print!(rt; ": {}; ", number(&answer))?;
     last(rt, case.log)?;
     println!(rt; "; {}", Centre(case.log.centre_of_gravity()))
 }

@@ -15,5 +15,5 @@ use script::calls::run;
 use std::io;
 
 fn main(rt: HostRuntime) -> io::Result<()> {
-    run(&mut rt.reader(), |case| report::tried(&rt, &case))
+    run(&mut rt.reader(), |case| report::tried(&rt, case))
 }

@@ -32,10 +32,15 @@ impl fmt::Display for Centre {
 pub fn read_full<'a>(from: &mut impl Read, out: &'a mut [u8]) -> io::Result<&'a [u8]>
     ensures { IfOk result (λ s. length s.now ≤ length out.old) }
 {
-    let room = out.len() as u64;
-    let mut rest = &mut out[..];
-    let n = io::copy(&mut from.take(room), &mut rest)?;
-    Ok(first(out, n as usize))
+    let mut at = 0;
+    for _ in 0..out.len() {
+        let n = from.read(&mut out[at..])?;
+        if n == 0 {
+            break;
+        }
+        at += n;
+    }
+    Ok(first(out, at))
 }
 
 // The input in so many blocks, each as long as the buffer where there is as much, and handed on in turn.

@@ -8,7 +8,7 @@ use native.Mathlib.Omega.{arith}
 use lib.Dec.{eqb}
 use lib.IntN.{ℤ, pos, negsuc, neg_ℤ, ◌-ℤ◌}
 use lib.Signed.{mag}
-use lib.ListN.{take, drop}
+use lib.ListN.{length, take, drop}
 use lib.Pointwise.{pointwise}
 use mir.Syntax.{w64}
 use mir.Val.{SFits, to_z}
@@ -17,7 +17,7 @@ use Rattle.laws.specs.Tests.{left}
 use Rattle.laws.specs.Z.{zs, is_bits, is_sub}
 use Rattle.paper.specs.Placard.{hyphen}
 use Rattle.numerals.specs.Numerals.{numeral, size_of, most_digits, value_of}
-use Rattle.numerals.proofs.Lengths.{decimal_same}
+use Rattle.numerals.proofs.Lengths.{length-decimal, places_some, decimal_same}
 
 -- ---- numerals
 
@@ -26,6 +26,11 @@ pub numeral_same : (z : ℤ) → mag z < 2 ^ 63 → signed_decimal z ≡ numeral
 unfolding numeral
 numeral_same (pos n) h = decimal_same n (omega arith)
 numeral_same (negsuc n) h = ap (λ ds. hyphen ∷ ds) (decimal_same (suc n) (omega arith))
+
+pub numeral_some : (x : ℤ) → 0 < length (numeral x)
+unfolding numeral
+numeral_some (pos n) = omega (arith, length-decimal n, places_some 19 n)
+numeral_some (negsuc n) = omega arith
 
 -- ---- the number of a word
 

@@ -2,8 +2,9 @@
 
 // Whole numbers as words of text: written in decimal, and read. `itoa` prints them, since std's `write!` promises its bytes
 // only where it answers `Ok`, and not that it does.
-ghost use Rattle.std.specs.Prelude.{◌≡◌, ◌++◌, ◌+◌, ◌≤◌, ◌<◌, ◌^◌, ℤ, pos, length, take};
+ghost use Rattle.std.specs.Prelude.{◌≡◌, ◌++◌, ◌+◌, ◌≤◌, ◌<◌, ◌/◌, ◌%◌, ◌^◌, ℤ, pos, length, take};
 ghost use Rattle.arrayvec.specs.ArrayString.{array_string_len};
+ghost use Rattle.paper.specs.Placard.{digits};
 ghost use Rattle.numerals.specs.Numerals.{numeral, digit_of, size_of, most_digits, value_of};
 
 use arrayvec::ArrayString;
@@ -11,6 +12,9 @@ use itoa::{Buffer, Integer};
 
 // The most digits that a number has when it is read.
 const DIGITS: usize = 18;
+
+// The most digits that a number without a sign has.
+const PLACES: usize = 20;
 
 // A type of integer whose numbers are written.
 pub trait Number: Integer {
@@ -42,6 +46,28 @@ pub fn put_number<const N: usize, I: Number>(text: &mut ArrayString<N>, x: I)
 {
     x.spelled();
     text.push_str(Buffer::new().format(x));
+}
+
+// The digit at a place of a number, from its last one on.
+#[inline(always)]
+fn digit_at(n: u64, place: usize) -> u8
+    ensures { (result ≡ n / 10 ^ place % 10) × (result < 10) }
+{
+    if place < PLACES {
+        (n / 10u64.pow(place as u32) % 10) as u8
+    } else {
+        0
+    }
+}
+
+// Writes the last `k` decimal digits of a number behind what stands in a text, with noughts in front where it has fewer.
+pub fn put_digits<const N: usize>(text: &mut ArrayString<N>, k: usize, n: u64)
+    requires { array_string_len text.old + k ≤ N }
+    ensures { text.new.bytes ≡ text.old.bytes ++ digits k n }
+{
+    for place in (0..k).rev() {
+        text.push(char::from(b'0' + digit_at(n, place)));
+    }
 }
 
 // What a digit counts.

@@ -2,6 +2,7 @@
 use Rattle.std.proofs.Common.{◌≡◌, ℕ, ◌≤◌, ◌<◌, ℤ, List, [], ◌∷◌, length, get_or, refl, sym, ap, ◌∙◌, arith, le-leb}
 use Rattle.std.proofs.lemmas.Bool.{lt-leb}
 use Rattle.std.specs.Prelude.{Option as RustOption, Some, None}
+use Rattle.std.specs.Borrow.{Bor}
 use Rattle.std.proofs.Math.Option
 use Rattle.std.proofs.Math.Option.{none, some, bind-eq-some_iff, map-eq-some_iff}
 use Rattle.paper.specs.declared.Entry.{Entry}
@@ -34,8 +35,8 @@ module _ (k : ℕ) where
       by none e = refl
       by (some p) e = rw (kind_there x xs p.0 p.1 e, lt-leb x k l)
 
-  pub taken_to : (xs : List ℕ) (x : RustOption Entry) (ys : List ℕ) → 1 ≤ length xs → get_or xs 0 0 ≤ k → Takes (take_entry xs) x ys → Takes (take_to k xs) x ys
+  pub taken_to : (xs : List ℕ) (b : Bor (List ℕ)) (x : RustOption Entry) (c : Bor (List ℕ)) → 1 ≤ length xs → get_or xs 0 0 ≤ k → Takes (take_entry xs) b x c → Takes (take_to k xs) b x c
   unfolding take_to
-  taken_to [] x ys h l t = absurd (omega arith)
-  taken_to (n ∷ xs) None ys h l t = rw t
-  taken_to (n ∷ xs) (Some e) ys h l t = rw (t, kind_there n xs e ys t, le-leb n k l)
+  taken_to [] b x c h l t = absurd (omega arith)
+  taken_to (n ∷ xs) b None c h l t = (rw t.0, t.1)
+  taken_to (n ∷ xs) b (Some e) c h l t = rw (t, kind_there n xs e c.now t, le-leb n k l)

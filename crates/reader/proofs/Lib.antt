@@ -1,2 +1,3 @@
--- What the proofs share: an entry kept or not.
+-- What the proofs share: an entry kept or not, and the entry at a place.
 pub mod Kept
+pub mod Places

@@ -1,5 +1,5 @@
 -- What a reader has still to read, and what it gives: entries of the kinds that a version has.
-use Rattle.std.specs.Prelude.{◌≡◌, cond, List, ℕ, leb}
+use Rattle.std.specs.Prelude.{◌≡◌, cond, List, ℕ, ◌-◌, leb, length, drop, Some, None}
 use Rattle.std.specs.Prelude.{Option as RustOption}
 use Rattle.std.specs.Borrow.{Bor}
 use Rattle.std.proofs.Math.Option.{Option, none, some}
@@ -26,6 +26,15 @@ up_to k (some p) = cond (leb (kind_of p.0) k) (some p) none
 unfoldable pub take_to : ℕ → List ℕ → Option (Entry × List ℕ)
 take_to k xs = up_to k (take_entry xs)
 
--- the entry that the bytes begin with, behind which the reader then stands, or none
+-- the entry that the bytes begin with, behind which the reader then stands, or none, and then it stands where it stood
 abbrev pub GivesEntry : Reader → RustOption Entry → Reader → Type 0
-GivesEntry s x t = Takes (take_to (code_of (last_of s)) (unread s).now) x (unread t).now × (last_of t ≡ last_of s)
+GivesEntry s x t = Takes (take_to (code_of (last_of s)) (unread s).now) (unread s) x (unread t) × (last_of t ≡ last_of s)
+
+-- an entry with the place where the bytes behind it begin, of n bytes in all
+abbrev pub walk_of : ℕ → Option (Entry × List ℕ) → RustOption (Entry × ℕ)
+walk_of n none = None
+walk_of n (some p) = Some (p.0, n - length p.1)
+
+-- the entry at a place of some bytes, and the place behind it; none where there is none, as behind their end
+unfoldable pub walk_at : List ℕ → ℕ → RustOption (Entry × ℕ)
+walk_at s at = walk_of (length s) (take_entry (drop at s))

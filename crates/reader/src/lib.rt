@@ -1,13 +1,14 @@
 #![tactic(auto)]
 
-// The reader that walks the entries of a stored file: a struct over the bytes that are still to be read.
-ghost use Rattle.std.specs.Prelude.{◌≡◌, length};
-ghost use Rattle.reader.specs.Reading.{unread, last_of};
+// The reader that walks the entries of a stored file: a struct over the bytes that are still to be read. `entry_at`, whose
+// parameters are plain, is for one entry alone.
+ghost use Rattle.std.specs.Prelude.{◌≡◌, length, drop};
+ghost use Rattle.reader.specs.Reading.{unread, last_of, walk_at};
 
 use paper::{Entry, Kind};
 
 // The bytes that are still to be read, and the last kind of entry that the version of their file has.
-#[derive(Drop)]
+#[derive(Clone, Copy)]
 pub struct Reader<'a> {
     rest: &'a [u8],
     kinds: Kind,
@@ -19,6 +20,16 @@ impl<'a> Reader<'a> {
         ensures { (unread result ≡ rest.entry) × (last_of result ≡ kinds) }
     {
         Reader { rest, kinds }
+    }
+
+    // Over what stands behind the first n bytes of those that are still to be read; over none where there are fewer.
+    pub fn moved(self, n: usize) -> Reader<'a>
+        ensures { ((unread result).now ≡ drop n (unread self.entry).now) × (last_of result ≡ last_of self.entry) }
+    {
+        Reader {
+            rest: &self.rest[n.min(self.rest.len())..],
+            kinds: self.kinds,
+        }
     }
 
     // How many bytes are still to be read.
@@ -47,4 +58,13 @@ impl<'a> Iterator for Reader<'a> {
         }
         entries::take_entry(&mut self.rest)
     }
+}
+
+// The entry at a place of some bytes, of whatever kind, and the place behind it; none where there is none.
+pub fn entry_at(s: &[u8], at: usize) -> Option<(Entry, usize)>
+    ensures { result ≡ walk_at s.now at }
+{
+    let mut reader = Reader::new(s, Kind::Seat).moved(at);
+    let entry = reader.next()?;
+    Some((entry, s.len() - reader.left()))
 }

@@ -10,25 +10,37 @@ ghost use Rattle.reading.specs.Readings.{two_products, Says, InGrams};
 use laws::Sides;
 use paper::{Weighing, arm, weight};
 
-// Number 1's condition. In methods 1 and 2 q is a part of p, in 3 they add up, in 4 q is taken from p.
+// Number 1's condition. In methods 1 and 2 q is a part of p, in 3 they add up, in 4 q is taken from p. Each test is a way out of its
+// own, here and below, and the methods are asked for in turn: as one value the tests take a weighing of a file 20 instructions more.
 pub fn bad_reading(w: Weighing) -> bool
     ensures { result ≡ bad_reading w }
 {
-    weight::MOST < w.p
-        || weight::MOST < w.q
-        || match w.m {
-            1 | 2 => w.p < w.q || w.p < 1,
-            3 => w.p + w.q < 1 || weight::MOST < w.p + w.q,
-            4 => w.p <= w.q,
-            _ => true,
-        }
+    if weight::MOST < w.p {
+        return true;
+    }
+    if weight::MOST < w.q {
+        return true;
+    }
+    match w.m {
+        1 => w.p < w.q || w.p < 1,
+        2 => w.p < w.q || w.p < 1,
+        3 => w.p + w.q < 1 || weight::MOST < w.p + w.q,
+        4 => w.p <= w.q,
+        _ => true,
+    }
 }
 
 // Number 2's condition.
 pub fn bad_distance(w: Weighing) -> bool
     ensures { result ≡ bad_distance w }
 {
-    !(arm::holds(w.a) && 1 <= w.b && w.b <= arm::DISTANCE_MOST)
+    if !arm::holds(w.a) {
+        return true;
+    }
+    if w.b < 1 {
+        return true;
+    }
+    arm::DISTANCE_MOST < w.b
 }
 
 // G, in grams. It asks for the methods in turn, as `moment` does, so that both are known by one test of each.

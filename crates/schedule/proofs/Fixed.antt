@@ -1,28 +1,13 @@
 -- Numbers with decimals: how long they are, and by the side of 0 that they are on. Assumes nothing.
-use Rattle.std.proofs.Common.{◌≡◌, refl, sym, ap, ◌∙◌, true, false, List, [], ◌∷◌, ◌++◌, append_assoc, append-nil, ℕ, suc, ◌+◌, ◌-◌, ◌<◌, ◌/◌, ◌%◌, ◌^◌, ◌≤◌, ℤ, pos, negsuc, length, length-append, arith}
+use Rattle.std.proofs.Common.{◌≡◌, refl, true, false, ◌∷◌, ℕ, suc, ◌+◌, ◌<◌, ◌/◌, ◌^◌, ◌≤◌, ℤ, pos, negsuc, length, length-append, arith}
 use lib.IntN.{nat_abs}
 use lib.Signed.{lt_z}
 use borrow.Author.Tests.{ltb-true}
-use Rattle.paper.specs.Placard.{hyphen, nought, point, digits}
+use Rattle.paper.specs.Placard.{hyphen, point, digits}
 use Rattle.numerals.specs.Numerals.{decimal}
-use Rattle.numerals.proofs.Digits.{length_digits, digits_none}
+use Rattle.numerals.proofs.Digits.{length_digits}
 use Rattle.numerals.proofs.Words.{decimal_most}
 use Rattle.schedule.specs.Schedules.{decimals, fixed}
-
--- ---- digits written one by one
-
--- the first of those that are left
-pub digit_more : (n place r x : ℕ) (s t : List ℕ) → 0 < place → r ≡ 10 ^ (place - 1) → x ≡ nought + n / r % 10 → t ≡ s ++ x ∷ [] → t ++ digits (place - 1) n ≡ s ++ digits place n
-unfolding digits
-digit_more n place r x s t h q e f =
-    let k : place ≡ suc (place - 1) = omega arith in
-    rw (f, e, q) (append_assoc s (_ ∷ []) (digits (place - 1) n) ∙ ap (λ (i : ℕ). s ++ digits i n) (sym k))
-
--- none is left
-pub digits_all : (n place : ℕ) (s t : List ℕ) → place ≤ 0 → s ++ digits place n ≡ t → s ≡ t
-digits_all n place s t h e =
-    let k : place ≡ 0 = omega arith in
-    sym (append-nil s) ∙ ap (λ ds. s ++ ds) (sym (digits_none n)) ∙ ap (λ (i : ℕ). s ++ digits i n) (sym k) ∙ e
 
 -- ---- how long they are
 

@@ -5,7 +5,6 @@ ghost use Rattle.std.specs.Prelude.{◌≡◌, ◌++◌, ◌+◌, ◌≤◌, len
 ghost use Rattle.arrayvec.specs.ArrayString.{array_string_len};
 ghost use Rattle.paper.specs.declared.Equipment.{Equipment};
 ghost use Rattle.paper.specs.declared.Entry.{Entry};
-ghost use Rattle.paper.specs.Placard.{digits};
 ghost use Rattle.paper.specs.Record.{balance_of, is_none};
 ghost use Rattle.paper.specs.Equipment.{fitted, equipment_of, total};
 ghost use Rattle.schedule.specs.Schedules.{decimals, fixed, nets, line_of, sums, schedule, schedule_answer, Few};
@@ -24,19 +23,7 @@ const HUNDREDTHS: u32 = 2;
 // The decimals of a weight in kilograms.
 const GRAMS: u32 = 3;
 
-// Writes the last `k` digits of a number behind what stands in a text.
-fn put_digits(text: &mut Text, k: u32, n: u64)
-    requires few { k ≤ 3 }
-    requires room { array_string_len text.old + k ≤ LONGEST }
-    ensures { text.new.bytes ≡ text.old.bytes ++ digits k n }
-{
-    for place in (0..k).rev() {
-        let digit = n / 10u64.pow(place) % 10;
-        text.push(char::from(b'0' + digit as u8));
-    }
-}
-
-// Writes a number without a sign in units of the `k`-th decimal there.
+// Writes a number without a sign in units of the `k`-th decimal behind what stands in a text.
 fn put_decimals(text: &mut Text, k: u32, n: u64)
     requires few { k ≤ 3 }
     requires room { array_string_len text.old + length (decimals k n) ≤ LONGEST }
@@ -44,7 +31,7 @@ fn put_decimals(text: &mut Text, k: u32, n: u64)
 {
     numerals::put_number(text, n / 10u64.pow(k));
     text.push('.');
-    put_digits(text, k, n);
+    numerals::put_digits(text, k as usize, n);
 }
 
 // The same with a minus in front of what is below 0.

@@ -9,7 +9,7 @@ const MESSAGE: usize = 16;
 
 // An ordinary weighing's fields but for the readings, and its messages: with each cell's zero taken off they are 300 kg, 30 kg,
 // 300.001 kg and 30.01 kg.
-const FIELDS: &str = "m1 a10000 b500000 n100000";
+const FIELDS: &[u8] = b"m1 a10000 b500000 n100000";
 
 const P: &str = "014072e80000000000 407f40 4004";
 
@@ -50,16 +50,16 @@ pub fn weigh_indicated(log: &mut Record, text: &str) -> Result<(), Refusal> {
     let (p2, q2) = parted(rest, '/');
     let by = Fields {
         ordinary: FIELDS,
-        other,
+        other: other.as_bytes(),
     };
     log.weigh_indicated(Indicated {
-        m: by.number('m'),
+        m: by.number(b'm'),
         p: message(p, P, &mut [0; MESSAGE]),
         q: message(q, Q, &mut [0; MESSAGE]),
         p2: message(p2, SECOND_P, &mut [0; MESSAGE]),
         q2: message(q2, SECOND_Q, &mut [0; MESSAGE]),
-        a: by.signed('a'),
-        b: by.number('b'),
-        n: by.number('n'),
+        a: by.signed(b'a'),
+        b: by.number(b'b'),
+        n: by.number(b'n'),
     })
 }

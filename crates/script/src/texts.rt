@@ -1,5 +1,5 @@
 // What stands in a text: its parts, its numbers, bytes and floats as digits of sixteen.
-ghost use Rattle.std.specs.Prelude.{◌≡◌, ◌⊎◌, ◌∷◌, ◌++◌, ◌/◌, ◌<◌, [], length, take, IfOk, min};
+ghost use Rattle.std.specs.Prelude.{◌≡◌, ℕ, ◌⊎◌, ◌≢◌, ◌∷◌, ◌++◌, ◌+◌, ◌-◌, ◌/◌, ◌<◌, ◌≤◌, [], length, take, drop, slice_index, EachIndex, IfOk, MatchOption, min};
 ghost use Rattle.std.specs.Str.{IsCharBoundary};
 ghost use Rattle.script.specs.Digits.{digits_from, sixteen, Spells};
 
@@ -8,6 +8,31 @@ use std::io;
 
 // The most bytes that digits of sixteen spell in a case.
 pub const SPELLED: usize = 4096;
+
+// The place of the first such byte, or behind the end where there is none.
+pub fn place_of(s: &[u8], x: u8) -> usize
+    ensures within { result ≤ length s.now }
+    ensures before { (k : ℕ) → k < result → slice_index s.now k ≢ x }
+    ensures found { result < length s.now → slice_index s.now result ≡ x }
+{
+    s.iter().position(|y| *y == x).unwrap_or(s.len())
+}
+
+// The bytes from one place to another, or all where there are no such places.
+pub fn between(s: &[u8], from: usize, to: usize) -> &[u8]
+    ensures places { from ≤ to → to ≤ length s.now → result.now ≡ take (to - from) (drop from s.now) }
+    ensures none { (from ≤ to → to ≤ length s.now → ⊥) → result.now ≡ s.now }
+{
+    s.get(from..to).unwrap_or(s)
+}
+
+// What stands behind the last such byte.
+pub fn behind_last(s: &[u8], x: u8) -> Option<&[u8]>
+    ensures { MatchOption result (EachIndex s.now (λ k. slice_index s.now k ≢ x)) (λ t. (k : ℕ) × (k < length s.now) × (slice_index s.now k ≡ x) × (t.now ≡ drop (k + 1) s.now) × ((i : ℕ) → k < i → i < length s.now → slice_index s.now i ≢ x)) }
+{
+    let at = s.iter().rposition(|y| *y == x)?;
+    Some(&s[at + 1..])
+}
 
 // The text that bytes are.
 pub fn text(s: &[u8]) -> io::Result<&str>

@@ -3,7 +3,7 @@
 use mathlib.Core.Path.{◌≡◌, refl, ap, ◌∙◌}
 use mathlib.Core.Bool.{true, false, cond}
 use mathlib.Core.List.{List, [], ◌∷◌}
-use mathlib.Core.Option.{Option, none, bind}
+use mathlib.Core.Option.{Option, none, some, bind}
 use Rattle.std.specs.Prelude.{Some}
 use Rattle.std.specs.Borrow.{Bor}
 use Prim.Native.Nat.{ℕ, ◌-◌, ◌≤◌, ◌<◌}
@@ -15,17 +15,21 @@ use lib.Pow.{are_bytes}
 use lib.Seq.{drop-drop, get_or-drop}
 use borrow.Author.Tests.{le-leb, lt-leb}
 use Rattle.laws.specs.Options.{none_either, tests_both}
+use Rattle.laws.specs.Tests.{isnt}
 use Rattle.paper.specs.declared.Entry.{Entry}
 use Rattle.paper.specs.Numbers.{code_of}
 use Rattle.paper.specs.Rows.{joined}
 use Rattle.paper.specs.File.{number_of, take_number, take_entries, is_version, last_kind, kinds_to, only_kinds, take_body, laid_out}
 use Rattle.paper.specs.Refusals.{accepted_after, accepted, only_accepted, file_of}
 use Rattle.format.specs.Numbers.{bytes_drop}
+use Rattle.format.specs.Entries.{entries_written}
+use Rattle.format.specs.Files.{only_kinds_lem}
 use Rattle.header.specs.declared.Header.{Header}
 use Rattle.header.specs.Header.{headed, TakesHeader}
 use Rattle.header.proofs.Judging.{too_few, enough_bytes}
 use Rattle.header.specs.Versions as versions
 use Rattle.judge.specs.Standing.{Stands, stands_in}
+use Rattle.judge.proofs.Accepted.{at_most_64}
 use Rattle.reader.specs.declared.Reader.{Reader}
 use Rattle.reader.specs.Reading.{unread, last_of}
 use Rattle.stored.specs.Walks.{WalkedTo}
@@ -94,6 +98,17 @@ module _ (xs : List ℕ) where
     pub good_header : headed xs ≡ true → file_of xs ≡ only_accepted entries_in
     unfolding file_of
     good_header e = ap only_accepted (rw e at (by_header b))
+
+    -- more entries than a record may have
+    pub too_many : headed xs ≡ true → 64 < get_or xs 5 0 → file_of xs ≡ none
+    too_many e h = more_than entries_in refl
+      where
+        more_than : (o : Option (List Entry)) → entries_in ≡ o → file_of xs ≡ none
+        more_than none t = good_header e ∙ ap only_accepted t
+        more_than (some es) t =
+            let k = only_kinds_lem (last_kind (get_or xs 4 0)) (take_entries (get_or xs 5 0) (drop 6 xs)) es t in
+            let n = (entries_written (get_or xs 5 0) (drop 6 xs) es (bytes_drop 6 xs b) k.1).1 in
+            good_header e ∙ ap only_accepted t ∙ rw (isnt (accepted es) (λ a. omega (arith, at_most_64 es a)))
 
 -- a walk begins behind a right header
 pub begun : (xs : List ℕ) (header : Header) (rest : Bor (List ℕ)) (reader : Reader) (o : Stands) → are_bytes xs ≡ true → TakesHeader xs (Some (header, rest)) → unread reader ≡ rest → code_of (last_of reader) ≡ last_kind (versions.number_of header.version) → o ≡ stands_in [] → WalkedTo xs [] header.count (code_of (last_of reader)) (unread reader).now o

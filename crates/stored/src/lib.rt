@@ -8,7 +8,7 @@ ghost use Rattle.stored.specs.Found.{Finds};
 ghost use Rattle.stored.specs.Walks.{Walked, Goes};
 
 use judge::Standing;
-use paper::Entry;
+use paper::{CAPACITY, Entry};
 use reader::Reader;
 
 // One step of a walk over a file: the next entry, judged against what stands; none where there is no file.
@@ -34,6 +34,9 @@ pub fn survey(s: &[u8]) -> Option<Contents>
     ensures { Finds (file_of s.now) result }
 {
     let (header, rest) = header::take_header(s)?;
+    if CAPACITY < header.count {
+        return None;
+    }
     let mut entries = Reader::new(rest, header.version.last_kind());
     let mut standing = Standing::new();
     let mut last = None;

@@ -24,6 +24,16 @@ pub trait Readings: Copy {
         ensures { result ≡ (readings self).second };
 
     ghost same_distances: { (x : Self) → bad_distance (readings x).second ≡ bad_distance (readings x).first };
+
+    // Whether both are accepted behind 9, or why they are refused. Each kind judges and adds up what it has: a plain weighing its
+    // one reading once.
+    fn check(self) -> Result<(), Refusal>
+        ensures { number_in result ≡ first_number (weighing_faults (readings self)) };
+
+    // G, M and n of both, once they are accepted.
+    fn balance(self) -> Balance
+        requires { first_number (weighing_faults (readings self)) ≡ 0 }
+        ensures { (plain result ≡ paper.weighed (readings self)) × Bounded 1 result };
 }
 
 // A plain weighing counts as the pair of itself with itself.
@@ -39,6 +49,28 @@ impl Readings for Weighing {
     fn second(self) -> Weighing {
         self
     }
+
+    #[inline(always)]
+    fn check(self) -> Result<(), Refusal> {
+        let misread = bad_reading(self);
+        let distance = bad_distance(self);
+        if misread {
+            return Err(Refusal::Reading);
+        }
+        if distance {
+            return Err(Refusal::Distance);
+        }
+        if bad_nonlifting(self) {
+            return Err(Refusal::NonLifting);
+        }
+        Ok(())
+    }
+
+    #[inline(always)]
+    fn balance(self) -> Balance {
+        let r = reckoned(self);
+        added(r, r)
+    }
 }
 
 impl Readings for Paired {
@@ -52,6 +84,16 @@ impl Readings for Paired {
 
     fn second(self) -> Weighing {
         reading(self, self.p2, self.q2)
+    }
+
+    #[inline(always)]
+    fn check(self) -> Result<(), Refusal> {
+        check_both(self.first(), self.second())
+    }
+
+    #[inline(always)]
+    fn balance(self) -> Balance {
+        added(reckoned(self.first()), reckoned(self.second()))
     }
 }
 
@@ -69,8 +111,10 @@ fn reading(x: Paired, p: u64, q: u64) -> Weighing
     }
 }
 
-// Whether both readings are accepted behind 9, or why they are refused: by number, and not reading by reading.
-fn check(first: Weighing, second: Weighing) -> Result<(), Refusal>
+// Whether two readings are accepted behind 9, or why they are refused: by number, and not reading by reading. Inlined, since a
+// call copies both.
+#[inline(always)]
+fn check_both(first: Weighing, second: Weighing) -> Result<(), Refusal>
     requires { bad_distance second ≡ bad_distance first }
     ensures { number_in result ≡ first_number (weighing_faults (both first second)) }
 {
@@ -105,8 +149,6 @@ pub fn weighed<W: Readings>(w: W) -> Result<Balance, Refusal>
     ensures number { number_in result ≡ first_number (weighing_faults (W.readings w)) }
     ensures accepted { IfOk result (λ b. (plain b ≡ paper.weighed (W.readings w)) × Bounded 1 b) }
 {
-    let first = w.first();
-    let second = w.second();
-    check(first, second)?;
-    Ok(added(reckoned(first), reckoned(second)))
+    w.check()?;
+    Ok(w.balance())
 }

@@ -1,19 +1,19 @@
 -- Values put one behind the other, by recursion on them; and how many there are. Assumes nothing.
 use mathlib.Core.Path.{◌≡◌, refl, sym, ◌∙◌, ap}
 use mathlib.Core.List.{List, [], ◌∷◌, ◌++◌, append_assoc, append-nil}
-use Prim.Native.Nat.{ℕ, ◌^◌, ◌≤◌, ◌<◌}
+use Prim.Native.Nat.{ℕ, ◌+◌, ◌^◌, ◌≤◌, ◌<◌}
 use native.Mathlib.Omega.{arith}
 use lib.IntN.{ℤ}
 use lib.Signed.{mag}
-use lib.ListN.{length}
+use lib.ListN.{length, length-append}
 use mir.Syntax.{w64}
 use mir.Val.{hbits, to_z, of_z}
 use mir.Facts.{to_z-of_z}
 use Rattle.paper.specs.declared.Entry.{Entry}
 use Rattle.paper.specs.declared.Entry.TheVariants as entry
-use Rattle.paper.specs.File.{values_of}
+use Rattle.paper.specs.File.{kind_of, values_of}
 use Rattle.paper.specs.Rows.{joined}
-use Rattle.wording.specs.Texts.{spaced, values_text}
+use Rattle.wording.specs.Texts.{name_of, spaced, values_text, entry_text}
 
 -- no kind has more than fifteen values
 pub values_few : (e : Entry) → length (values_of e) ≤ 15
@@ -22,6 +22,11 @@ values_few (entry.Sheet s) = omega arith
 values_few (entry.Change x) = omega arith
 values_few (entry.Paired x) = omega arith
 values_few (entry.Seat f) = omega arith
+
+-- an entry's text by its two parts
+pub length-text : (e : Entry) → length (entry_text e) ≡ length (name_of (kind_of e)) + length (values_text (values_of e))
+unfolding entry_text
+length-text e = length-append (name_of (kind_of e)) (values_text (values_of e))
 
 -- values put one by one, each behind a space
 unfoldable pub put_all : List ℤ → List ℕ → List ℕ

@@ -20,9 +20,9 @@ push-requires c =
     let whole : c.put_number.new.text.bytes ≡ c.args.text.now.bytes ++ decimal (c.args.n / 10 ^ c.args.k) = rw c.pow.ensures at c.put_number.ensures in
     omega (arith, length-decimals c.args.k c.args.n, ap length whole, length-append {A = ℕ})
 
-pub put_digits-requires-clause-room : goal.put_digits-requires-clause-room
+pub put_digits-requires : goal.put_digits-requires
 unfolding numeral
-put_digits-requires-clause-room c =
+put_digits-requires c =
     let whole : c.put_number.new.text.bytes ≡ c.args.text.now.bytes ++ decimal (c.args.n / 10 ^ c.args.k) = rw c.pow.ensures at c.put_number.ensures in
     omega (arith, length-decimals c.args.k c.args.n, ap length whole, ap length (c.push.ensures.ascii (omega arith)), length-append {A = ℕ})
 

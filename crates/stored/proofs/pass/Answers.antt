@@ -7,7 +7,7 @@ use Rattle.stored.proofs.pass.Goals as goal
 
 pub returns-in_err-entry : goal.returns-in_err-entry
 returns-in_err-entry c xs es n w =
-    rw c.from_residual.ensures (no_entry xs es n _ _ _ w c.in_err-entry.ensures.steps.0)
+    rw c.from_residual.ensures (no_entry xs es n _ _ _ w c.in_err-entry.ensures.steps.0.0)
 
 pub returns-in_err-ok : goal.returns-in_err-ok
 returns-in_err-ok c xs es n w =

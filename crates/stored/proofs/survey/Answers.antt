@@ -8,7 +8,7 @@ use Rattle.paper.specs.Numbers.{code_of}
 use Rattle.paper.proofs.Lists.{without_more}
 use Rattle.format.specs.Numbers.{bytes_at}
 use Rattle.stored.specs.Found.{bytes_in}
-use Rattle.stored.proofs.Headers.{bad_header, begun}
+use Rattle.stored.proofs.Headers.{bad_header, too_many, begun}
 use Rattle.stored.proofs.Reading.{left_over, all_passed, begins, coming, ended}
 use Rattle.stored.proofs.survey.Goals as goal
 
@@ -16,6 +16,12 @@ pub returns-in_err-header : goal.returns-in_err-header
 returns-in_err-header c =
     let bytes = bytes_at c.args.s.now (λ i h. (c.type_inv.s i).fits) in
     rw c.from_residual.ensures (bad_header c.args.s.now bytes c.in_err-header.ensures)
+
+pub returns-then-header-gt-CAPACITY : goal.returns-then-header-gt-CAPACITY
+returns-then-header-gt-CAPACITY c =
+    let bytes = bytes_at c.args.s.now (λ i h. (c.type_inv.s i).fits) in
+    let h = c.in_ok-header.ensures in
+    too_many c.args.s.now bytes h.0 (omega (arith, h.2, c.if-header-gt-CAPACITY.true))
 
 pub loop-init : goal.loop-init
 loop-init c =

@@ -1,10 +1,10 @@
--- `weighing::check` meets its contract: each way out computes the conditions so far. Assumes nothing.
+-- `weighing::check_both` meets its contract: each way out computes the conditions so far. Assumes nothing.
 use mathlib.Core.Path.{◌≡◌, sym, ◌∙◌, ap₂}
 use mathlib.Core.Bool.{◌||◌}
 use Rattle.paper.specs.Refusals.{first_number, bad_reading, bad_part, either, weighing_faults}
 use Rattle.weighing.specs.Readings.{both}
 use Rattle.weighing.proofs.Distances.{first_decides}
-use Rattle.weighing.proofs.check.Goals as goal
+use Rattle.weighing.proofs.check_both.Goals as goal
 
 pub returns-then-reading : goal.returns-then-reading
 unfolding first_number weighing_faults
