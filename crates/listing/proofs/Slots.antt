@@ -50,8 +50,11 @@ module _ (slots : List Entry) (i : ℕ) (d : Entry) (o p : Stands) (n : ℕ) (h 
     pub stands_is : p ≡ stands_in (es ++ e ∷ [])
     stands_is = stands-more ∙ ap stands_in more
 
+    pub room-within : length (listing es) + 430 ≤ 27520
+    room-within = omega (arith, listing_most es, room_for es e none)
+
     pub lines-within : (c : Result CentreOfGravity Refusal) → length (listing es) + length (lines_of c e) ≤ 27520
-    lines-within c = omega (arith, lines_most c e, listing_most es, room_for es e none)
+    lines-within c = omega (arith, lines_most c e, room-within)
 
     pub lines_more : (c : Result CentreOfGravity Refusal) → c ≡ centre_answer (es ++ e ∷ []) → listing es ++ lines_of c e ≡ listing (held_to slots (i + 1))
     lines_more c a =

@@ -1,7 +1,7 @@
 #![tactic(auto)]
 
 // The listing of a record: its entries as lines of a logbook, with what each weighing and change comes to as a comment.
-ghost use Rattle.std.specs.Prelude.{◌≡◌, ◌++◌, ◌+◌, ◌≤◌, length};
+ghost use Rattle.std.specs.Prelude.{◌≡◌, ◌++◌, ◌+◌, ◌≤◌, [], length};
 ghost use Rattle.arrayvec.specs.ArrayString.{array_string_len};
 ghost use Rattle.record.specs.Held.{held_by};
 ghost use Rattle.listing.specs.Listings.{halves, signed_halves, comment, remark, lines_of, listing, listed_answer};
@@ -66,33 +66,33 @@ fn put_remark(text: &mut Text, c: Result<CentreOfGravity, Refusal>, e: Entry)
 
 // The lines of such an entry.
 fn put_lines(text: &mut Text, c: Result<CentreOfGravity, Refusal>, e: Entry)
-    requires { array_string_len text.old + length (lines_of c e) ≤ 27520 }
+    requires { array_string_len text.old + 430 ≤ 27520 }
     ensures { text.new.bytes ≡ text.old.bytes ++ lines_of c e }
 {
-    text.push_str(wording::text_of(e).as_str());
+    wording::put_text(text, e);
     text.push('\n');
     put_remark(text, c, e);
 }
 
-// The lines of the entries that a record holds.
-fn listing_of(r: &Record) -> Text
-    ensures { result.bytes ≡ listing (held_by r.now) }
+// Writes the lines of the entries that a record holds.
+fn put_listing(text: &mut Text, r: &Record)
+    requires { text.old.bytes ≡ [] }
+    ensures { text.new.bytes ≡ listing (held_by r.now) }
 {
-    let mut text = Text::new();
     let mut standing = Standing::new();
     for e in r.entries() {
         if standing.add(*e).is_ok() {
-            put_lines(&mut text, centre::answer(&standing), *e);
+            put_lines(text, centre::answer(&standing), *e);
         }
     }
-    text
 }
 
 // The listing, and how many bytes it has: 11 where the buffer is too short, and then no byte of it changes.
 pub fn show(r: &Record, out: &mut [u8]) -> Result<usize, Refusal>
     ensures { (result, out.new) ≡ listed_answer (held_by r.now) out.old }
 {
-    let text = listing_of(r);
+    let mut text = Text::new();
+    put_listing(&mut text, r);
     if out.len() < text.len() {
         return Err(Refusal::ShortBuffer);
     }

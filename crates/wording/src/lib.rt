@@ -1,7 +1,7 @@
 #![tactic(auto)]
 
 // The text of an entry, as a line of the logbook has it.
-ghost use Rattle.std.specs.Prelude.{◌≡◌, ◌++◌, ◌+◌, ◌≤◌, length};
+ghost use Rattle.std.specs.Prelude.{◌≡◌, ◌++◌, ◌+◌, ◌*◌, ◌≤◌, length};
 ghost use Rattle.arrayvec.specs.ArrayString.{array_string_len};
 ghost use Rattle.paper.specs.declared.Entry.{Entry};
 ghost use Rattle.paper.specs.declared.Entry.TheVariants as entry;
@@ -21,18 +21,18 @@ const LONGEST: usize = 338;
 pub type Text = ArrayString<LONGEST>;
 
 // A kind of entry, by what its values are.
-trait Worded {
+trait Worded<const N: usize> {
     ghost entry: { Self → Entry };
 
-    // Writes them behind a name, in the order of the file.
-    fn put_values(self, text: &mut Text)
-        requires { array_string_len text.old ≤ 8 }
+    // Writes them behind what stands in a text, in the order of the file.
+    fn put_values(self, text: &mut ArrayString<N>)
+        requires { array_string_len text.old + 22 * length (values_of (entry self)) ≤ N }
         ensures { text.new.bytes ≡ text.old.bytes ++ values_text (values_of (entry self)) };
 }
 
 // Writes a number behind what stands in a text, and a space before it.
-fn put_number<I: Number>(text: &mut Text, x: I)
-    requires { array_string_len text.old + 22 ≤ 338 }
+fn put_number<const N: usize, I: Number>(text: &mut ArrayString<N>, x: I)
+    requires { array_string_len text.old + 22 ≤ N }
     ensures behind { text.new.bytes ≡ text.old.bytes ++ spaced (I.value x) }
     ensures few { array_string_len text.new ≤ array_string_len text.old + 22 }
 {
@@ -40,10 +40,10 @@ fn put_number<I: Number>(text: &mut Text, x: I)
     numerals::put_number(text, x);
 }
 
-impl Worded for Weighing {
+impl<const N: usize> Worded<N> for Weighing {
     ghost entry = { λ x. entry.Weighing x };
 
-    fn put_values(self, text: &mut Text) {
+    fn put_values(self, text: &mut ArrayString<N>) {
         put_number(text, self.m);
         put_number(text, self.p);
         put_number(text, self.q);
@@ -53,10 +53,10 @@ impl Worded for Weighing {
     }
 }
 
-impl Worded for Sheet {
+impl<const N: usize> Worded<N> for Sheet {
     ghost entry = { λ x. entry.Sheet x };
 
-    fn put_values(self, text: &mut Text) {
+    fn put_values(self, text: &mut ArrayString<N>) {
         put_number(text, self.fwd);
         put_number(text, self.aft);
         put_number(text, self.dry);
@@ -75,20 +75,20 @@ impl Worded for Sheet {
     }
 }
 
-impl Worded for Change {
+impl<const N: usize> Worded<N> for Change {
     ghost entry = { λ x. entry.Change x };
 
-    fn put_values(self, text: &mut Text) {
+    fn put_values(self, text: &mut ArrayString<N>) {
         put_number(text, self.c);
         put_number(text, self.arm);
         put_number(text, self.flag);
     }
 }
 
-impl Worded for Paired {
+impl<const N: usize> Worded<N> for Paired {
     ghost entry = { λ x. entry.Paired x };
 
-    fn put_values(self, text: &mut Text) {
+    fn put_values(self, text: &mut ArrayString<N>) {
         put_number(text, self.m);
         put_number(text, self.p);
         put_number(text, self.q);
@@ -100,36 +100,44 @@ impl Worded for Paired {
     }
 }
 
-impl Worded for Seat {
+impl<const N: usize> Worded<N> for Seat {
     ghost entry = { λ x. entry.Seat x };
 
-    fn put_values(self, text: &mut Text) {
+    fn put_values(self, text: &mut ArrayString<N>) {
         put_number(text, self.lower);
         put_number(text, self.higher);
     }
 }
 
-// The name of a kind, and behind it the values of an entry of that kind.
-fn named<W: Worded>(name: &str, x: W) -> Text
-    requires { length name.now ≤ 8 }
-    ensures { result.bytes ≡ name.now ++ values_text (values_of (W.entry x)) }
+// Writes the name of a kind, and behind it the values of an entry of that kind.
+fn put_named<const N: usize, W: Worded<N>>(text: &mut ArrayString<N>, name: &str, x: W)
+    requires { array_string_len text.old + length name.now + 22 * length (values_of (W.entry x)) ≤ N }
+    ensures { text.new.bytes ≡ text.old.bytes ++ name.now ++ values_text (values_of (W.entry x)) }
 {
-    let mut text = Text::new();
     text.push_str(name);
-    x.put_values(&mut text);
-    text
+    x.put_values(text);
+}
+
+// Writes the text of an entry behind what stands in a text.
+#[tactic(auto, unfolding(crate::specs::Texts::entry_text, crate::specs::Texts::name_of))]
+pub fn put_text<const N: usize>(text: &mut ArrayString<N>, e: Entry)
+    requires { array_string_len text.old + 338 ≤ N }
+    ensures { text.new.bytes ≡ text.old.bytes ++ entry_text e }
+{
+    match e {
+        Entry::Weighing(w) => put_named(text, "weighing", w),
+        Entry::Sheet(s) => put_named(text, "sheet", s),
+        Entry::Change(x) => put_named(text, "change", x),
+        Entry::Paired(x) => put_named(text, "paired", x),
+        Entry::Seat(f) => put_named(text, "seat", f),
+    }
 }
 
 // The text of an entry.
-#[tactic(auto, unfolding(crate::specs::Texts::entry_text, crate::specs::Texts::name_of))]
 pub fn text_of(e: Entry) -> Text
     ensures { result.bytes ≡ entry_text e }
 {
-    match e {
-        Entry::Weighing(w) => named("weighing", w),
-        Entry::Sheet(s) => named("sheet", s),
-        Entry::Change(x) => named("change", x),
-        Entry::Paired(x) => named("paired", x),
-        Entry::Seat(f) => named("seat", f),
-    }
+    let mut text = Text::new();
+    put_text(&mut text, e);
+    text
 }

@@ -6,7 +6,7 @@ use Rattle.wording.proofs.Parts.{put_all, all_put, then_put, signed_put, none_pu
 use Rattle.wording.proofs.SeatWorded.put_values.Goals as goal
 
 pub returns : goal.returns
-returns c =
+returns g c =
     let a = c.args in
     let put : c.put_number-2.new.text.bytes ≡ put_all (values_of (entry.Seat a.self)) a.text.now.bytes =
     (then_put _ _ _ _ _ (signed_put a.self.lower _ _ (search rules) c.put_number.ensures.behind)

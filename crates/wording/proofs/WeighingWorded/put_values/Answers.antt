@@ -6,7 +6,7 @@ use Rattle.wording.proofs.Parts.{put_all, all_put, then_put, signed_put, none_pu
 use Rattle.wording.proofs.WeighingWorded.put_values.Goals as goal
 
 pub returns : goal.returns
-returns c =
+returns g c =
     let a = c.args in
     let put : c.put_number-6.new.text.bytes ≡ put_all (values_of (entry.Weighing a.self)) a.text.now.bytes =
     (then_put _ _ _ _ _ c.put_number.ensures.behind

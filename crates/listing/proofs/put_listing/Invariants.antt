@@ -1,10 +1,10 @@
--- `listing::listing_of` meets its contract. The loop's invariant: the entries so far are listed, and what stands in them
+-- `listing::put_listing` meets its contract. The loop's invariant: the entries so far are listed, and what stands in them
 -- stands. Assumes nothing.
 use mathlib.Core.Path.{◌≡◌}
 use Rattle.judge.specs.Standing.{stands_in, plainly}
 use Rattle.record.proofs.Replays.{held_to}
 use Rattle.listing.specs.Listings.{listing}
-use Rattle.listing.proofs.listing_of.Given as goal
+use Rattle.listing.proofs.put_listing.Given as goal
 
 abbrev pub invariant-loop-e : goal.invariant-loop-e
 invariant-loop-e l =

@@ -1,4 +1,4 @@
--- `listing::listing_of` meets its contract. The loop's invariant: the entries so far are listed, and what stands in them
+-- `listing::put_listing` meets its contract. The loop's invariant: the entries so far are listed, and what stands in them
 -- stands. Assumes nothing.
 use borrow.Author.Rules.{rules}
 use mathlib.Core.Path.{◌≡◌, sym, ap, ◌∙◌}
@@ -9,13 +9,13 @@ use Rattle.record.specs.Held.{slotted, replayed}
 use Rattle.record.proofs.Calls.{ok_number, err_number}
 use Rattle.record.proofs.Replays.{held_to, held_all}
 use Rattle.listing.specs.Listings.{listed_after, listing}
-use Rattle.listing.proofs.Slots.{passed, lines-within, lines_more, stands_is, stands-more}
-use Rattle.listing.proofs.listing_of.Goals as goal
-use Rattle.listing.proofs.listing_of.Goals.{then-is_ok, else-is_ok}
+use Rattle.listing.proofs.Slots.{passed, room-within, lines_more, stands_is, stands-more}
+use Rattle.listing.proofs.put_listing.Goals as goal
+use Rattle.listing.proofs.put_listing.Goals.{then-is_ok, else-is_ok}
 
 pub loop-e-init : goal.loop-e-init
 unfolding listing listed_after replayed
-loop-e-init c = (c.new-standing.ensures, c.new-text.ensures)
+loop-e-init c = (c.new-standing.ensures, c.requires)
 
 pub put_lines-requires : goal.put_lines-requires
 put_lines-requires c =
@@ -23,7 +23,7 @@ put_lines-requires c =
     let es = c.entries-e-items.result.now in
     let here : l.e-index < length es = omega arith in
     let none = ok_number c.add.result (search rules) in
-    omega (arith, lines-within es l.e-index _ _ _ _ here l.invariant.0 c.add.ensures none c.answer.result, ap length l.invariant.1)
+    omega (arith, room-within es l.e-index _ _ _ _ here l.invariant.0 c.add.ensures none, ap length l.invariant.1)
 
 pub loop-e-preserved : goal.loop-e-preserved
 loop-e-preserved c =
