@@ -25,15 +25,22 @@ pub trait Readings: Copy {
 
     ghost same_distances: { (x : Self) → bad_distance (readings x).second ≡ bad_distance (readings x).first };
 
-    // Whether both are accepted behind 9, or why they are refused. Each kind judges and adds up what it has: a plain weighing its
-    // one reading once.
+    // Whether both are accepted behind 9, or why they are refused. A kind whose readings are one judges it once.
+    #[inline(always)]
     fn check(self) -> Result<(), Refusal>
-        ensures { number_in result ≡ first_number (weighing_faults (readings self)) };
+        ensures { number_in result ≡ first_number (weighing_faults (readings self)) }
+    {
+        check_both(self.first(), self.second())
+    }
 
-    // G, M and n of both, once they are accepted.
+    // G, M and n of both, once they are accepted. A kind whose readings are one adds it up once.
+    #[inline(always)]
     fn balance(self) -> Balance
         requires { first_number (weighing_faults (readings self)) ≡ 0 }
-        ensures { (plain result ≡ paper.weighed (readings self)) × Bounded 1 result };
+        ensures { (plain result ≡ paper.weighed (readings self)) × Bounded 1 result }
+    {
+        added(reckoned(self.first()), reckoned(self.second()))
+    }
 }
 
 // A plain weighing counts as the pair of itself with itself.
@@ -84,16 +91,6 @@ impl Readings for Paired {
 
     fn second(self) -> Weighing {
         reading(self, self.p2, self.q2)
-    }
-
-    #[inline(always)]
-    fn check(self) -> Result<(), Refusal> {
-        check_both(self.first(), self.second())
-    }
-
-    #[inline(always)]
-    fn balance(self) -> Balance {
-        added(reckoned(self.first()), reckoned(self.second()))
     }
 }
 
